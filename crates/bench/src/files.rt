@@ -9,7 +9,7 @@ use std::fs::File;
 use std::io::Read;
 use std::rt::{Clock, Files};
 use std::time::Instant;
-use tiff_dir::{Compression, Level, Order, Place, Walk, tile_of};
+use tiff_dir::{Codec, Compression, Level, Order, Place, Walk, tile_of};
 
 /// How often the tiles of a level are unpacked.
 const REPEATS: u32 = 64;
@@ -86,7 +86,7 @@ fn unpack_level(alloc: Global, file: &[u8], order: Order, level: &Level) -> Resu
 fn unpack_levels(alloc: Global, file: &[u8], order: Order, levels: &[Level]) -> Result<u64> {
     let mut bytes = 0u64;
     for level in levels {
-        if level.compression == Compression::PackBits {
+        if level.compression == Compression::Packed(Codec::PackBits) {
             for _ in 0..REPEATS {
                 let count = unpack_level(alloc, file, order, level)?;
                 bytes = bytes.wrapping_add(count);

@@ -1,16 +1,16 @@
 -- Taking a piece of the revision that is read.
 use Rattle.std.proofs.Common.{◌≡◌, ℕ, List, length, Option, Some, None, sym, ap, ◌∙◌, subst, arith}
 use Rattle.std.proofs.lemmas.List.{take_all}
-use Rattle.tiff_dir.specs.declared.span.Span.{Span}
+use Rattle.extents.specs.declared.span.Span.{Span}
 use Rattle.http_range.specs.Piece.{SeenPiece}
 use Rattle.range_cache.specs.Cache.{Block, Blocks, stored}
 use Rattle.cog_client.specs.declared.report.Report.{Report}
 use Rattle.cog_client.specs.Take.{asked_or_first, brought_by, stored_count, stored_front, stored_of}
 use Rattle.cog_client.specs.Client.{ClientState, asked_of, blocks_of, feed_of, report_of}
-use Rattle.cog_client.specs.Feeding.{TakesNoBody, nothing_fed}
+use Rattle.cog_client.specs.AnswerPhase.{TakesNoBody, nothing_fed}
 use Rattle.cog_client.specs.Calls.{unless_reported}
 use Rattle.cog_client.specs.Keeps.{GoesOnKeeping, Misses}
-use Rattle.cached_reader.specs.Going.{AreSame}
+use Rattle.cog_reader.specs.Going.{AreSame}
 use Rattle.cog_client.specs.Steps.{Stores, StopsStoring, AcceptsPiece}
 use Rattle.cog_client.proofs.ClientLemmas.{same_trans, stays_trans}
 

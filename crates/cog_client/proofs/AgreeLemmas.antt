@@ -4,8 +4,8 @@ use Rattle.std.specs.Prelude.{IfSome, IsSome, not, if◌then◌else◌, ◌==◌
 use Rattle.std.specs.Str.{bytes_eq}
 use Rattle.std.proofs.lemmas.Bool.{eqb-true}
 use Rattle.std.proofs.lemmas.Slice.Eq.{bytes_eq-Decides}
-use Rattle.tiff_dir.specs.declared.span.Span.{Span}
-use Rattle.tiff_dir.specs.declared.limits.TheConstants.{BLOCK_SIZE}
+use Rattle.extents.specs.declared.span.Span.{Span}
+use Rattle.extents.specs.declared.limits.TheConstants.{BLOCK_SIZE}
 use Rattle.http_range.specs.Announced.{Announced, body_behind}
 use Rattle.http_range.specs.Book.{Book, HasDistinctTags}
 use Rattle.http_range.specs.Honest.{IsPieceOfBook, IsReadAs}
@@ -18,12 +18,12 @@ use Rattle.range_cache.specs.Cache.{Blocks}
 use Rattle.cog_client.specs.declared.case.Case.{Case}
 use Rattle.cog_client.specs.declared.case.Case.TheVariants.{Ignored, Adopted, Restarted, Accepted}
 use Rattle.cog_client.specs.declared.delivered.Ignored.TheVariants.{OtherRevision, OtherLength}
-use Rattle.cog_client.specs.declared.source.Source.{Source}
+use Rattle.cog_client.specs.declared.revision_reader.RevisionReader.{RevisionReader}
 use Rattle.cog_client.specs.Case.{Revision}
 use Rattle.cog_client.specs.Client.{ClientAgrees, ClientState, IsAlone, IsClient, Knows, KnowsBy, MayKeep, asked_of, blocks_of, feed_of, name_of, revision_of}
 use Rattle.cog_client.specs.Fed.{case_of_head, piece_with}
 use Rattle.cog_client.specs.FedClient.{Begins, FedBody, FrontsKeepAgreement, case_for, revision_of_head}
-use Rattle.cog_client.specs.Feeding.{Feed}
+use Rattle.cog_client.specs.AnswerPhase.{Feed}
 use Rattle.cog_client.specs.Keeps.{StaysOf}
 use Rattle.cog_client.specs.Steps.{Adopts}
 use Rattle.cog_client.specs.Take.{brought_by}
@@ -57,7 +57,7 @@ fed_sound : (f : List ℕ) (mid c : ClientState) → c ≡ record mid { cache = 
 unfolding revision_of Knows
 fed_sound f mid c same room some knows =
     subst IsClient (sym same) (by_source (λ o. mid.source ≡ o → IfSome o (KnowsBy f mid) → IsClient (record mid { cache = blocks_of c; feed = feed_of c }))
-    (λ (x : Source) is k. record {
+    (λ (x : RevisionReader) is k. record {
       hosted = k.sound.hosted;
       named = k.sound.named;
       alone = subst (λ o. IsAlone o (blocks_of c) mid.report (feed_of c)) (sym is) tt;

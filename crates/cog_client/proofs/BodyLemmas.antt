@@ -3,8 +3,8 @@ use Rattle.std.proofs.Common.{◌≡◌, ℕ, ◌+◌, ◌-◌, ◌*◌, ◌<◌
 use Rattle.std.proofs.lemmas.Bool.{cases_lt}
 use Rattle.std.proofs.lemmas.List.{take_all, drop_all, drop-append-le, take-append-le}
 use Rattle.std.proofs.Math.Seq.{drop-append-add, take-append-add}
-use Rattle.tiff_dir.specs.declared.span.Span.{Span}
-use Rattle.tiff_dir.specs.Block.{end_of}
+use Rattle.extents.specs.declared.span.Span.{Span}
+use Rattle.extents.specs.Block.{end_of}
 use Rattle.http_range.specs.Announced.{Announced}
 use Rattle.range_cache.specs.Cache.{Block, Blocks, stored, stores}
 use Rattle.range_cache.specs.Laws.{BesideBringNone, CutsPart, EdgesPart, IsEdge, PartsBringNone, StoredJoin, StoresAreFew, StoresJoin, UnwantedStay, WholeAreFew, begun}

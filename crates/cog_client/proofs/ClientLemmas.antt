@@ -4,8 +4,8 @@ use Rattle.std.proofs.lemmas.Bool.{false≢true}
 use Rattle.std.specs.Prelude.{IfSome, IsSome, IsSomeAnd, is_some, if◌then◌else◌}
 use Rattle.std.specs.Option.{option_map, option_map_or}
 use Rattle.tiff_dir.specs.declared.query.Query.{Query}
-use Rattle.tiff_dir.specs.declared.span.Span.{Span}
-use Rattle.tiff_dir.specs.declared.limits.TheConstants.{BLOCK_SIZE}
+use Rattle.extents.specs.declared.span.Span.{Span}
+use Rattle.extents.specs.declared.limits.TheConstants.{BLOCK_SIZE}
 use Rattle.tiff_dir.specs.Needs.{IsEndOf}
 use Rattle.tiff_dir.specs.Query.{needs}
 use Rattle.http_range.specs.Book.{Book}
@@ -15,45 +15,45 @@ use Rattle.range_cache.specs.Laws.{FrontHolds}
 use Rattle.cog_reader.specs.Outcome.{IsTrueOf}
 use Rattle.cog_reader.specs.Reader as reader
 use Rattle.cog_reader.specs.Reader.{ReaderState}
-use Rattle.tile_mosaic.specs.Unpacked.{KeptTiles}
-use Rattle.cog_client.specs.declared.asking.Asking.{Asking}
+use Rattle.tile_plan.specs.TileCache.{KeptTiles}
+use Rattle.cog_client.specs.declared.request_options.RequestOptions.{RequestOptions}
 use Rattle.cog_client.specs.declared.report.Report.{Report}
-use Rattle.cog_client.specs.declared.source.Source.{Source}
+use Rattle.cog_client.specs.declared.revision_reader.RevisionReader.{RevisionReader}
 use Rattle.cog_client.specs.Case.{Revision}
 use Rattle.cog_client.specs.Take.{emptied, stored_front}
-use Rattle.cog_client.specs.Feeding.{Feed, nothing_fed}
+use Rattle.cog_client.specs.AnswerPhase.{Feed, nothing_fed}
 use Rattle.cog_client.specs.Client.{ClientAgrees, ClientState, IsAlone, IsClient, IsFew, IsReadingOf, IsReportOf, Knows, KnowsBy, KnowsOne, MayKeep, asked_of, blocks_of, feed_of, host_of, how_of, name_of, query_of, report_of, revision_in, revision_of, tag_of, to_come, unread}
 use Rattle.cog_client.specs.Calls.{SameClient}
 use Rattle.cog_client.specs.Keeps.{GoesOnKeeping, OpensKeeping, StaysOf}
-use Rattle.cached_reader.specs.Going as going
-use Rattle.cached_reader.specs.Going.{work}
+use Rattle.cog_reader.specs.Going as going
+use Rattle.cog_reader.specs.Going.{work}
 use Rattle.cog_client.specs.Steps.{Adopts, Concludes, Stores}
 use Rattle.cog_client.proofs.GoingLemmas.{end_nil, end_refl, end_trans, same_refl, same_trans as blocks_trans}
 
-abbrev pub known : Feed → Asking → List ℕ → List ℕ → Option Query → Option Span → Option Source → Blocks → Option Report → ClientState
+abbrev pub known : Feed → RequestOptions → List ℕ → List ℕ → Option Query → Option Span → Option RevisionReader → Blocks → Option Report → ClientState
 known e how h n q a s b r = record { how = how; host = h; name = n; query = q; asked = a; source = s; cache = b; report = r; feed = e }
 
-pub known_is : (e : Feed) (how : Asking) (h n : List ℕ) (q q' : Option Query) (a : Option Span) (s s' : Option Source) (b : Blocks) (r r' : Option Report) → q ≡ q' → s ≡ s' → r ≡ r' → known e how h n q a s b r ≡ known e how h n q' a s' b r'
+pub known_is : (e : Feed) (how : RequestOptions) (h n : List ℕ) (q q' : Option Query) (a : Option Span) (s s' : Option RevisionReader) (b : Blocks) (r r' : Option Report) → q ≡ q' → s ≡ s' → r ≡ r' → known e how h n q a s b r ≡ known e how h n q' a s' b r'
 known_is e how h n q q' a s s' b r r' query source report =
     ap (λ x. known e how h n x a s b r) query ∙ ap (λ x. known e how h n q' a x b r) source ∙ ap (known e how h n q' a s' b) report
 
 -- a client with a revision reads something
-pub by_source : (P : Option Source → Type 0) → ((s : Source) → P (Some s)) → (o : Option Source) → IsSome (option_map revision_in o) → P o
+pub by_source : (P : Option RevisionReader → Type 0) → ((s : RevisionReader) → P (Some s)) → (o : Option RevisionReader) → IsSome (option_map revision_in o) → P o
 by_source P h None none = absurd (false≢true none)
 by_source P h (Some s) some = h s
 
 -- the tag is that of what is read
-pub tag_is : (c : ClientState) (s : Source) → c.source ≡ Some s → tag_of c ≡ Some s.tag
+pub tag_is : (c : ClientState) (s : RevisionReader) → c.source ≡ Some s → tag_of c ≡ Some s.tag
 unfolding revision_of
 tag_is c s is = ap (λ o. option_map (λ (v : Revision). v.tag) (option_map revision_in o)) is
 
 -- ---- agreement goes by files
 
-pub some_knows : (f : List ℕ) (c : ClientState) (s : Source) → c.source ≡ Some s → Knows f c → KnowsBy f c s
+pub some_knows : (f : List ℕ) (c : ClientState) (s : RevisionReader) → c.source ≡ Some s → Knows f c → KnowsBy f c s
 unfolding Knows
 some_knows f c s is k = subst (λ o. IfSome o (KnowsBy f c)) is k
 
-pub knows_some : (f : List ℕ) (c : ClientState) (s : Source) → c.source ≡ Some s → KnowsBy f c s → Knows f c
+pub knows_some : (f : List ℕ) (c : ClientState) (s : RevisionReader) → c.source ≡ Some s → KnowsBy f c s → Knows f c
 unfolding Knows
 knows_some f c s is k = subst (λ o. IfSome o (KnowsBy f c)) (sym is) k
 
@@ -84,7 +84,7 @@ goes_by old new same revision blocks file = record {
 
 -- ---- the blocks of a piece are stored
 
-module _ (e e' : Feed) (how : Asking) (h n : List ℕ) (q : Option Query) (a : Option Span) (s : Source) (b : Blocks) (r : Option Report) where
+module _ (e e' : Feed) (how : RequestOptions) (h n : List ℕ) (q : Option Query) (a : Option Span) (s : RevisionReader) (b : Blocks) (r : Option Report) where
   pub stores_front : (new : Blocks) (p : SeenPiece) (span : Span) (k : ℕ) → FrontHolds → IsClient (known e' how h n q a (Some s) new r)
       → new ≡ stored_front k p span b → Stores p span k (known e how h n q a (Some s) b r) (known e' how h n q a (Some s) new r)
   unfolding how_of host_of name_of query_of asked_of revision_of report_of blocks_of to_come unread Knows
@@ -106,22 +106,22 @@ module _ (e e' : Feed) (how : Asking) (h n : List ℕ) (q : Option Query) (a : O
     };
   }
 
-module _ (e : Feed) (how : Asking) (h n : List ℕ) (q : Option Query) (a : Option Span) (s : Source) (b : Blocks) (r : Option Report) where
+module _ (e : Feed) (how : RequestOptions) (h n : List ℕ) (q : Option Query) (a : Option Span) (s : RevisionReader) (b : Blocks) (r : Option Report) where
   -- ---- going on
 
-  pub gone_sound : (s' : Source) (new : Blocks) → s'.complete ≡ s.complete → IsClient (known e how h n q a (Some s) b r)
+  pub gone_sound : (s' : RevisionReader) (new : Blocks) → s'.complete ≡ s.complete → IsClient (known e how h n q a (Some s) b r)
       → going.ReaderGoesOn (work s.reader b) (work s'.reader new) → IsClient (known e how h n q a (Some s') new r)
   gone_sound s' new complete c goes = record {
     hosted = c.hosted;
     named = c.named;
     alone = tt;
-    reading = (complete ∙ c.reading.0 ∙ sym goes.complete, goes.query ∙ c.reading.1);
+    reading = (complete ∙ c.reading.0 ∙ sym goes.file_length, goes.query ∙ c.reading.1);
     tiles = goes.most ∙ c.tiles ∙ ap (λ (n : ℕ). n * BLOCK_SIZE) (sym goes.blocks.capacity);
     standing = c.standing;
     few = c.few;
   }
 
-  gone_report : (f : List ℕ) (s' : Source) (o : Option Report) → s'.tag ≡ s.tag → IfSome o (IsReportOf f s) → IfSome o (IsReportOf f s')
+  gone_report : (f : List ℕ) (s' : RevisionReader) (o : Option Report) → s'.tag ≡ s.tag → IfSome o (IsReportOf f s) → IfSome o (IsReportOf f s')
   gone_report f s' None tag h = tt
   gone_report f s' (Some x) tag h = (h.0 ∙ sym tag, h.1)
 
@@ -129,7 +129,7 @@ module _ (e : Feed) (how : Asking) (h n : List ℕ) (q : Option Query) (a : Opti
   reading_of : IsClient (known e how h n q a (Some s) b r) → r ≡ None → reader.query_of s.reader ≡ q
   reading_of c quiet = c.reading.1 ∙ ap (λ o. if is_some o then None else q) quiet
 
-  pub gone : (s' : Source) (new : Blocks) → r ≡ None → s'.tag ≡ s.tag → s'.complete ≡ s.complete → IsClient (known e how h n q a (Some s) b r)
+  pub gone : (s' : RevisionReader) (new : Blocks) → r ≡ None → s'.tag ≡ s.tag → s'.complete ≡ s.complete → IsClient (known e how h n q a (Some s) b r)
       → going.ReaderGoesOn (work s.reader b) (work s'.reader new) → GoesOnKeeping (known e how h n q a (Some s) b r) (known e how h n q a (Some s') new r)
   unfolding how_of host_of name_of query_of revision_of blocks_of to_come unread Knows
   gone s' new quiet tag complete c goes =
@@ -145,7 +145,7 @@ module _ (e : Feed) (how : Asking) (h n : List ℕ) (q : Option Query) (a : Opti
 
 -- ---- a report that stands from now on
 
-module _ (e : Feed) (how : Asking) (h n : List ℕ) (q : Query) (a : Option Span) (s s' : Source) (b : Blocks) where
+module _ (e : Feed) (how : RequestOptions) (h n : List ℕ) (q : Query) (a : Option Span) (s s' : RevisionReader) (b : Blocks) where
   pub concluded_sound : (x : Report) → IsClient (known e how h n (Some q) a (Some s) b None) → Concludes q s (Some x) s' → IsClient (known e how h n (Some q) None (Some s') b (Some x))
   concluded_sound x c d = record {
     hosted = c.hosted;
@@ -204,7 +204,7 @@ goes_trans a b c h k = record {
 abbrev pub EndsAreWanted : Type 0
 EndsAreWanted = (r : ReaderState) (f : List ℕ) → reader.ReaderAgrees r f → IfSome (reader.query_of r) (λ q. IsEndOf (reader.to_come r f) (needs f q))
 
-module _ (e e' : Feed) (dropped : e' ≡ nothing_fed) (how : Asking) (h n : List ℕ) (q : Option Query) (a : Option Span) (b : Blocks) (r : Option Report) (query : Query) where
+module _ (e e' : Feed) (dropped : e' ≡ nothing_fed) (how : RequestOptions) (h n : List ℕ) (q : Option Query) (a : Option Span) (b : Blocks) (r : Option Report) (query : Query) where
   pub opened_alone : OpensKeeping query (known e how h n q a None b r) (known e' how h n (Some query) None None b None)
   unfolding how_of host_of name_of query_of asked_of revision_of report_of blocks_of feed_of to_come unread Knows ClientAgrees
   opened_alone = record {
@@ -216,7 +216,7 @@ module _ (e e' : Feed) (dropped : e' ≡ nothing_fed) (how : Asking) (h n : List
     agrees = λ book k. tt;
   }
 
-  opened_sound : (s : Source) (x : ReaderState) → reader.complete_of x ≡ reader.complete_of s.reader → reader.query_of x ≡ Some query → reader.tiles_of x ≡ reader.tiles_of s.reader → IsClient (known e how h n q a (Some s) b r)
+  opened_sound : (s : RevisionReader) (x : ReaderState) → reader.file_length_of x ≡ reader.file_length_of s.reader → reader.query_of x ≡ Some query → reader.tiles_of x ≡ reader.tiles_of s.reader → IsClient (known e how h n q a (Some s) b r)
       → IsClient (known e' how h n (Some query) None (Some (record s { reader = x })) b None)
   opened_sound s x complete asks tiles c = record {
     hosted = c.hosted;
@@ -228,7 +228,7 @@ module _ (e e' : Feed) (dropped : e' ≡ nothing_fed) (how : Asking) (h n : List
     few = tt;
   }
 
-  pub opened : (s : Source) (x : ReaderState) → EndsAreWanted → reader.complete_of x ≡ reader.complete_of s.reader → reader.query_of x ≡ Some query → reader.tiles_of x ≡ reader.tiles_of s.reader
+  pub opened : (s : RevisionReader) (x : ReaderState) → EndsAreWanted → reader.file_length_of x ≡ reader.file_length_of s.reader → reader.query_of x ≡ Some query → reader.tiles_of x ≡ reader.tiles_of s.reader
       → ((f : List ℕ) → reader.ReaderAgrees s.reader f → reader.ReaderAgrees x f) → ((f : List ℕ) → reader.to_come x f ≡ reader.unread s.reader f query)
       → ((f : List ℕ) (k : Query) → reader.unread x f k ≡ reader.unread s.reader f k) → IsClient (known e how h n q a (Some s) b r)
       → OpensKeeping query (known e how h n q a (Some s) b r) (known e' how h n (Some query) None (Some (record s { reader = x })) b None)
@@ -247,9 +247,9 @@ module _ (e e' : Feed) (dropped : e' ≡ nothing_fed) (how : Asking) (h n : List
 
 -- ---- a revision is adopted
 
-module _ (e : Feed) (how : Asking) (h n : List ℕ) (q : Option Query) (a asked : Option Span) (before : Option Source) (s : Source) (b new : Blocks) where
+module _ (e : Feed) (how : RequestOptions) (h n : List ℕ) (q : Option Query) (a asked : Option Span) (before : Option RevisionReader) (s : RevisionReader) (b new : Blocks) where
   pub adopted : (p : Revision) → s.tag ≡ p.tag → s.complete ≡ p.complete → new ≡ emptied b → ((f : List ℕ) → Holds f new)
-      → ((f : List ℕ) → length f ≡ p.complete → reader.ReaderAgrees s.reader f) → reader.complete_of s.reader ≡ p.complete → reader.query_of s.reader ≡ q → MayKeep new s
+      → ((f : List ℕ) → length f ≡ p.complete → reader.ReaderAgrees s.reader f) → reader.file_length_of s.reader ≡ p.complete → reader.query_of s.reader ≡ q → MayKeep new s
       → IfSome asked IsFew → IsClient (known e how h n q a before b None) → Adopts p asked (known e how h n q a before b None) (known e how h n q asked (Some s) new None)
   unfolding how_of host_of name_of query_of asked_of revision_of report_of blocks_of Knows
   adopted p tag complete empty holds agrees size query tiles few c = record {
@@ -268,7 +268,7 @@ module _ (e : Feed) (how : Asking) (h n : List ℕ) (q : Option Query) (a asked 
 
 -- ---- what is still to come
 
-comes_by : (f : List ℕ) (c : ClientState) (s : Source) → EndsAreWanted → ((r : ReaderState) (g : List ℕ) → reader.query_of r ≡ None → reader.to_come r g ≡ [])
+comes_by : (f : List ℕ) (c : ClientState) (s : RevisionReader) → EndsAreWanted → ((r : ReaderState) (g : List ℕ) → reader.query_of r ≡ None → reader.to_come r g ≡ [])
     → (q : Query) → c.query ≡ Some q → (r : Option Report) → c.report ≡ r → reader.ReaderAgrees s.reader f → IsReadingOf c.query c.report s → IsEndOf (reader.to_come s.reader f) (needs f q)
 comes_by f c s ends none q asks None silent agrees reading =
     let is : reader.query_of s.reader ≡ Some q = reading.1 ∙ ap (λ o. if is_some o then None else c.query) silent ∙ asks in
@@ -282,7 +282,7 @@ pub comes : EndsAreWanted → ((r : ReaderState) (g : List ℕ) → reader.query
 unfolding query_of to_come Knows
 comes ends none c f knows = asked c.query refl
   where
-    read : (q : Query) → c.query ≡ Some q → (o : Option Source) → c.source ≡ o → IfSome o (KnowsBy f c) → IsEndOf (option_map_or (λ (s : Source). reader.to_come s.reader f) o []) (needs f q)
+    read : (q : Query) → c.query ≡ Some q → (o : Option RevisionReader) → c.source ≡ o → IfSome o (KnowsBy f c) → IsEndOf (option_map_or (λ (s : RevisionReader). reader.to_come s.reader f) o []) (needs f q)
     read q asks None e k = end_nil (needs f q)
     read q asks (Some s) e k = comes_by f c s ends none q asks c.report refl k.reader (subst (λ o. IfSome o (IsReadingOf c.query c.report)) e k.sound.reading)
 
@@ -296,7 +296,7 @@ pub refed : (c : ClientState) (e : Feed) (f : List ℕ) → Knows f c → Knows 
 unfolding Knows
 refed c e f knows = at c.source refl knows
   where
-    at : (o : Option Source) → c.source ≡ o → IfSome o (KnowsBy f c) → IfSome o (KnowsBy f (record c { feed = e }))
+    at : (o : Option RevisionReader) → c.source ≡ o → IfSome o (KnowsBy f c) → IfSome o (KnowsBy f (record c { feed = e }))
     at None is k = tt
     at (Some s) is k = record {
       reader = k.reader;
@@ -315,14 +315,14 @@ refed c e f knows = at c.source refl knows
 
 -- nor is how the client asks
 
-pub rehow_sound : (c : ClientState) (how : Asking) → IsClient c → IsClient (record c { how = how })
+pub rehow_sound : (c : ClientState) (how : RequestOptions) → IsClient c → IsClient (record c { how = how })
 rehow_sound c how s = record { hosted = s.hosted; named = s.named; alone = s.alone; reading = s.reading; tiles = s.tiles; standing = s.standing; few = s.few }
 
-pub rehowed : (c : ClientState) (how : Asking) (f : List ℕ) → Knows f c → Knows f (record c { how = how })
+pub rehowed : (c : ClientState) (how : RequestOptions) (f : List ℕ) → Knows f c → Knows f (record c { how = how })
 unfolding Knows
 rehowed c how f knows = at c.source refl knows
   where
-    at : (o : Option Source) → c.source ≡ o → IfSome o (KnowsBy f c) → IfSome o (KnowsBy f (record c { how = how }))
+    at : (o : Option RevisionReader) → c.source ≡ o → IfSome o (KnowsBy f c) → IfSome o (KnowsBy f (record c { how = how }))
     at None is k = tt
     at (Some s) is k = record {
       reader = k.reader;

@@ -8,7 +8,7 @@ use Rattle.std.proofs.lemmas.Option.{none-some, same_Some}
 use Rattle.std.proofs.lemmas.Slice.Eq.{bytes_eq-Decides}
 use Rattle.std.proofs.Math.Seq.{take-append_seam}
 use Rattle.tiff_dir.specs.declared.query.Query.{Query}
-use Rattle.tiff_dir.specs.declared.span.Span.{Span}
+use Rattle.extents.specs.declared.span.Span.{Span}
 use Rattle.http_range.specs.declared.reading.Why.{Why}
 use Rattle.http_range.specs.Book.{Publication, Book, HasDistinctTags}
 use Rattle.http_range.specs.Honest.{IsFront, IsPieceOf as IsOf, IsPieceOfBook, IsReadAs}
@@ -26,14 +26,14 @@ use Rattle.cog_client.specs.declared.delivered.Delivered.TheVariants.{Took, Rest
 use Rattle.cog_client.specs.declared.delivered.Ignored as why
 use Rattle.cog_client.specs.declared.delivered.Ignored.TheVariants.{NotUsed}
 use Rattle.cog_client.specs.declared.report.Report.{Report}
-use Rattle.cog_client.specs.declared.source.Source.{Source}
+use Rattle.cog_client.specs.declared.revision_reader.RevisionReader.{RevisionReader}
 use Rattle.cog_client.specs.Case.{Revision, case_of, is_beside}
 use Rattle.cog_client.specs.Take.{Holding, Taken, IsIgnored, asked_or_first, base_of, keep, stored_count, emptied, first_span, revision_of_piece, stored_front, stored_of, take as taken, take_by}
 use Rattle.cog_client.specs.Client.{ClientAgrees, ClientState, IsReadingOf, IsStanding, Knows, KnowsBy, KnowsOne, asked_of, blocks_of, feed_of, holding, host_of, how_of, name_of, query_of, report_of, revision_in, revision_in, revision_of, to_come, unread}
-use Rattle.cog_client.specs.Feeding.{nothing_fed}
+use Rattle.cog_client.specs.AnswerPhase.{nothing_fed}
 use Rattle.cog_client.specs.Calls.{unless_reported}
 use Rattle.cog_client.specs.Keeps.{DeliversKeeping, StaysOf, StopsDelivery}
-use Rattle.cached_reader.specs.Going.{AreSame}
+use Rattle.cog_reader.specs.Going.{AreSame}
 use Rattle.cog_client.specs.Steps.{Adopts, StopsStoring, AcceptsPiece}
 use Rattle.cog_client.proofs.GoingLemmas.{end_refl, same_refl}
 use Rattle.cog_client.proofs.ClientLemmas.{agrees_by, refed, same_trans}
@@ -284,17 +284,17 @@ some_or_first None none = absurd (false≢true none)
 some_or_first (Some s) some = refl
 
 -- the length of what is read is that of every file that is known
-known_length : ((r : ReaderState) (f : List ℕ) → reader.ReaderAgrees r f → length f ≡ reader.complete_of r) → (c : ClientState) (v : Revision) → revision_of c ≡ Some v
+known_length : ((r : ReaderState) (f : List ℕ) → reader.ReaderAgrees r f → length f ≡ reader.file_length_of r) → (c : ClientState) (v : Revision) → revision_of c ≡ Some v
     → (f : List ℕ) → Knows f c → v.complete ≡ length f
 unfolding revision_of Knows
 known_length law c v is f knows = at c.source refl is knows
   where
-    at : (o : Option Source) → c.source ≡ o → option_map revision_in o ≡ Some v → IfSome o (KnowsBy f c) → v.complete ≡ length f
+    at : (o : Option RevisionReader) → c.source ≡ o → option_map revision_in o ≡ Some v → IfSome o (KnowsBy f c) → v.complete ≡ length f
     at None e none k = absurd (none-some v none)
     at (Some s) e some k =
         let same : revision_in s ≡ v = same_Some _ _ some in
         let reading : IsReadingOf c.query c.report s = subst (λ o. IfSome o (IsReadingOf c.query c.report)) e k.sound.reading in
-        let long : s.complete ≡ reader.complete_of s.reader = reading.0 in
+        let long : s.complete ≡ reader.file_length_of s.reader = reading.0 in
         sym (ap (λ (w : Revision). w.complete) same) ∙ long ∙ sym (law s.reader f k.reader)
 
 module _ (law : FrontsAreRead) (p : SeenPiece) (text : List ℕ) (reads : ReadsAnswer text (Ok p)) (old mid new : ClientState) where
@@ -331,13 +331,13 @@ module _ (law : FrontsAreRead) (p : SeenPiece) (text : List ℕ) (reads : ReadsA
       (λ some. other_tag (revision_of_piece p) (asked_of old) p (subst (λ v. case_of v (asked_of old) p ≡ cases.Restarted) some is) refl) adopts stops
 
 module _ (law : FrontsAreRead) (p : SeenPiece) (text : List ℕ) (reads : ReadsAnswer text (Ok p)) (old new : ClientState) where
-  pub accepted_delivers : ((r : ReaderState) (f : List ℕ) → reader.ReaderAgrees r f → length f ≡ reader.complete_of r) → (count : ℕ) → case_of (revision_of old) (asked_of old) p ≡ cases.Accepted → AcceptsPiece p old new count → DeliversKeeping old text (Took count) new
+  pub accepted_delivers : ((r : ReaderState) (f : List ℕ) → reader.ReaderAgrees r f → length f ≡ reader.file_length_of r) → (count : ℕ) → case_of (revision_of old) (asked_of old) p ≡ cases.Accepted → AcceptsPiece p old new count → DeliversKeeping old text (Took count) new
   accepted_delivers lengths count is takes =
       let before = same_revision (revision_of old) (asked_of old) p is in
       keeps_delivers law p text reads old new count is before (was_asked (revision_of old) (asked_of old) p cases.Accepted is (λ w e. cc))
       (known_length lengths old (revision_of_piece p) before) takes
 
-  pub accepted_stops : ((r : ReaderState) (f : List ℕ) → reader.ReaderAgrees r f → length f ≡ reader.complete_of r) → case_of (revision_of old) (asked_of old) p ≡ cases.Accepted
+  pub accepted_stops : ((r : ReaderState) (f : List ℕ) → reader.ReaderAgrees r f → length f ≡ reader.file_length_of r) → case_of (revision_of old) (asked_of old) p ≡ cases.Accepted
       → StopsStoring p old new → StopsDelivery old text new
   accepted_stops lengths is stops =
       let before = same_revision (revision_of old) (asked_of old) p is in

@@ -5,22 +5,22 @@ use Rattle.std.proofs.lemmas.Bool.{false≢true}
 use Rattle.std.proofs.lemmas.List.{map-append, take_more}
 use Rattle.std.proofs.lemmas.Slice.Zip.{all_zipped_more}
 use Rattle.tiff_dir.specs.declared.query.Query.{Query}
-use Rattle.tiff_dir.specs.declared.span.Span.{Span}
-use Rattle.tiff_dir.specs.declared.limits.TheConstants.{BLOCK_SIZE}
-use Rattle.tiff_dir.specs.Block.{end_of}
+use Rattle.extents.specs.declared.span.Span.{Span}
+use Rattle.extents.specs.declared.limits.TheConstants.{BLOCK_SIZE}
+use Rattle.extents.specs.Block.{end_of}
 use Rattle.range_cache.specs.Cache.{Blocks}
-use Rattle.cog_reader.specs.Reader.{complete_of}
-use Rattle.cached_reader.specs.Going.{CachedReader, work}
-use Rattle.cached_reader.specs.Early as reading
-use Rattle.cog_client.specs.declared.asking.Asking.{Asking}
+use Rattle.cog_reader.specs.Reader.{file_length_of}
+use Rattle.cog_reader.specs.Going.{CachedReader, work}
+use Rattle.cog_reader.specs.Early as reading
+use Rattle.cog_client.specs.declared.request_options.RequestOptions.{RequestOptions}
 use Rattle.cog_client.specs.declared.report.Report.{Report}
-use Rattle.cog_client.specs.declared.source.Source.{Source}
-use Rattle.cog_client.specs.Feeding.{Feed}
+use Rattle.cog_client.specs.declared.revision_reader.RevisionReader.{RevisionReader}
+use Rattle.cog_client.specs.AnswerPhase.{Feed}
 use Rattle.cog_client.specs.Client.{ClientState, Knows, asked_of, blocks_of, how_of, reader_of, revision_of, to_come}
 use Rattle.cog_client.specs.Early.{AsksNothingEarly, IsEarly, IsNeededEarly, IsRequestFor, LeaveNothing}
 use Rattle.cog_client.proofs.ClientLemmas.{known}
 
-module _ (e : Feed) (how : Asking) (h n : List ℕ) (q : Option Query) (asked : Span) (s : Source) (b : Blocks) (r : Option Report) (long : complete_of s.reader ≡ s.complete) where
+module _ (e : Feed) (how : RequestOptions) (h n : List ℕ) (q : Option Query) (asked : Span) (s : RevisionReader) (b : Blocks) (r : Option Report) (long : file_length_of s.reader ≡ s.complete) where
   early_span : (span : Span) → reading.IsEarly (work s.reader b) how.ahead asked span → IsNeededEarly (known e how h n q (Some asked) (Some s) b r) s.complete asked span
   unfolding blocks_of how_of to_come Knows
   early_span span i =
@@ -60,7 +60,7 @@ none_left c = at (reader_of c) (asked_of c)
     at (Some w) (Some asked) = λ k d less. absurd (omega (arith, less))
 
 -- It keeps its connections, and looks ahead.
-pub asks_early : (e : Feed) (how : Asking) (h n : List ℕ) (q : Option Query) (asked : Option Span) (s : Option Source) (b : Blocks) (r : Option Report)
+pub asks_early : (e : Feed) (how : RequestOptions) (h n : List ℕ) (q : Option Query) (asked : Option Span) (s : Option RevisionReader) (b : Blocks) (r : Option Report)
     → how.closes ≡ false → (how.ahead ≡ 0 → ⊥) → AsksNothingEarly (known e how h n q asked s b r) → ⊥
 unfolding how_of
 asks_early e how h n q asked s b r keeps ahead nothing = elim nothing [ inl closes ↦ false≢true (sym keeps ∙ closes) | inr near ↦ ahead near ]

@@ -2,7 +2,7 @@
 use Rattle.std.proofs.Common.{◌≡◌, ℕ, ◌-◌, Bool, true, false, cond, List, length, Option, Some, None, Result, Ok, Err, refl, sym, ap, ◌∙◌, subst, arith, inl, inr}
 use Rattle.std.specs.Prelude.{IfSome, not, if◌then◌else◌, ◌==◌}
 use Rattle.std.specs.Str.{bytes_eq}
-use Rattle.tiff_dir.specs.declared.span.Span.{Span}
+use Rattle.extents.specs.declared.span.Span.{Span}
 use Rattle.http_range.specs.declared.reading.Why.{Why}
 use Rattle.http_range.specs.Announced.{Announced, body_behind}
 use Rattle.http_range.specs.Laws.{FrontsAreRead}
@@ -18,13 +18,13 @@ use Rattle.cog_client.specs.declared.delivered.Delivered.{Delivered}
 use Rattle.cog_client.specs.declared.delivered.Delivered.TheVariants.{Took, Restarted as ARestart, Ignored as AnIgnored}
 use Rattle.cog_client.specs.declared.delivered.Ignored as why
 use Rattle.cog_client.specs.declared.delivered.Ignored.TheVariants.{NotUsed, OtherRevision, OtherLength, NotAsked}
-use Rattle.cog_client.specs.Arrival.{IsTold}
+use Rattle.cog_client.specs.PartialAnswer.{IsTold}
 use Rattle.cog_client.specs.Calls.{unless_reported}
 use Rattle.cog_client.specs.Case.{Revision, case_of, is_beside}
 use Rattle.cog_client.specs.Client.{ClientState, IsClient, asked_of, blocks_of, feed_of, holding, host_of, how_of, name_of, query_of, report_of, revision_of}
 use Rattle.cog_client.specs.Fed.{is_beside_at, piece_with, told_at_end}
 use Rattle.cog_client.specs.FedClient.{Begins, Fed, FedBody, case_for}
-use Rattle.cog_client.specs.Feeding.{Feed, nothing_fed, passed}
+use Rattle.cog_client.specs.AnswerPhase.{Feed, nothing_fed, passed}
 use Rattle.cog_client.specs.Keeps.{DeliversKeeping, GoesOnKeeping, Misses, StopsDelivery}
 use Rattle.cog_client.specs.Steps.{AcceptsPiece, Stores}
 use Rattle.cog_client.specs.Take.{IsIgnored, brought_by, take as taken, take_by}
@@ -81,7 +81,7 @@ accepts_from p s new e count st = record {
   file = λ f size piece knows. stays_refed s new e f (st.file f size piece (refed s e f knows));
 }
 
-module _ (law : FrontsAreRead) (lengths : (r : ReaderState) (f : List ℕ) → reader.ReaderAgrees r f → length f ≡ reader.complete_of r) (s mid new : ClientState)
+module _ (law : FrontsAreRead) (lengths : (r : ReaderState) (f : List ℕ) → reader.ReaderAgrees r f → length f ≡ reader.file_length_of r) (s mid new : ClientState)
     (text : List ℕ) (head : Announced) (reads : ReadsHead text (Ok head)) (span : Span) (asks : asked_of mid ≡ Some span) (count came : ℕ)
     (came_is : came ≡ length (body_behind head text)) (takes : AcceptsPiece (piece_with head (body_behind head text)) mid new count) where
   abbrev piece : SeenPiece
@@ -111,7 +111,7 @@ module _ (law : FrontsAreRead) (lengths : (r : ReaderState) (f : List ℕ) → r
 
 -- ---- the whole
 
-module _ (law : FrontsAreRead) (lengths : (r : ReaderState) (f : List ℕ) → reader.ReaderAgrees r f → length f ≡ reader.complete_of r) (holds : FrontHolds) (beside : BesideBringNone)
+module _ (law : FrontsAreRead) (lengths : (r : ReaderState) (f : List ℕ) → reader.ReaderAgrees r f → length f ≡ reader.file_length_of r) (holds : FrontHolds) (beside : BesideBringNone)
     (s : ClientState) (p : List ℕ) (old mid : ClientState) (dropped : mid ≡ record old { feed = nothing_fed }) (sound : IsClient mid) where
   -- what isn't ignored is of a body
   body_told : (what : Delivered) → IsTold (feed_of old) what → (IsIgnored what → ⊥) → Fed s p old

@@ -3,8 +3,8 @@ use Rattle.std.proofs.Common.{Ok, length, ℕ, ◌≡◌, ◌⊎◌, ◌+◌, �
 use Rattle.std.specs.Prelude.{IfSome, IsSome}
 use Rattle.std.proofs.lemmas.Bool.{leb-true}
 use Rattle.std.specs.Str.{bytes_eq}
-use Rattle.tiff_dir.specs.declared.span.Span.{Span}
-use Rattle.tiff_dir.specs.Block.{end_of}
+use Rattle.extents.specs.declared.span.Span.{Span}
+use Rattle.extents.specs.Block.{end_of}
 use Rattle.http_range.specs.Piece.{SeenPiece}
 use Rattle.http_range.specs.Announced.{Announced}
 use Rattle.range_cache.specs.Cache.{Block, Blocks, stored, stores}

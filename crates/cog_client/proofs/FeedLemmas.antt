@@ -3,7 +3,7 @@ use Rattle.std.proofs.Common.{◌≡◌, ℕ, suc, ◌+◌, ◌-◌, ◌*◌, �
 use Rattle.std.proofs.Math.Dec.{leb, ltb}
 use Rattle.std.proofs.lemmas.Bool.{cases_lt, le-leb, leb-true, lt-ltb}
 use Rattle.std.proofs.lemmas.List.{drop_all}
-use Rattle.tiff_dir.specs.Block.{end_of}
+use Rattle.extents.specs.Block.{end_of}
 use Rattle.http_range.specs.Announced.{Announced}
 use Rattle.range_cache.specs.Cache.{Block, Blocks, stored, stores}
 use Rattle.range_cache.specs.Laws.{BesideBringNone, begun}

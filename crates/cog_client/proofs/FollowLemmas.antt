@@ -1,19 +1,19 @@
 -- An answer in pieces: what a piece of it makes of the client.
 use Rattle.std.proofs.Common.{◌≡◌, ℕ, ◌-◌, List, [], ◌++◌, length, take, drop, Option, Some, None, Ok, Err, sym, ap, ◌∙◌, subst, arith, inl, inr, length-append}
-use Rattle.tiff_dir.specs.declared.span.Span.{Span}
+use Rattle.extents.specs.declared.span.Span.{Span}
 use Rattle.http_range.specs.declared.reading.Why.TheVariants.{Cut}
 use Rattle.http_range.specs.Announced.{Announced, announced, body_behind}
 use Rattle.http_range.specs.Laws.{HeadsGrow}
 use Rattle.range_cache.specs.Cache.{Blocks}
-use Rattle.cog_client.specs.declared.arrival.Found.{Found}
+use Rattle.cog_client.specs.declared.partial_answer.Found.{Found}
 use Rattle.cog_client.specs.declared.case.Case.{Case}
 use Rattle.cog_client.specs.declared.case.Case.TheVariants.{Ignored, Adopted, Restarted, Accepted}
-use Rattle.cog_client.specs.Arrival.{IsHeadless, LooksOn, StartsBody, TakesBytes, TakesOn}
+use Rattle.cog_client.specs.PartialAnswer.{IsHeadless, LooksOn, StartsBody, TakesBytes, TakesOn}
 use Rattle.cog_client.specs.Body.{IsBody}
 use Rattle.cog_client.specs.Case.{Revision}
 use Rattle.cog_client.specs.Client.{ClientState, asked_of, blocks_of, feed_of, host_of, how_of, name_of, query_of, revision_of}
 use Rattle.cog_client.specs.FedClient.{Begins, Fed, FedAllBut, FedBefore, FedBy, FedHeadless, FedPassed, case_for, revision_of_head}
-use Rattle.cog_client.specs.Feeding.{Feed, unused, passed, follows}
+use Rattle.cog_client.specs.AnswerPhase.{Feed, unused, passed, follows}
 use Rattle.cog_client.specs.Steps.{Adopts}
 use Rattle.cog_client.specs.Take.{first_span}
 

@@ -1,9 +1,10 @@
 -- Ends of lists, and blocks that are the same in whatever order.
 use Rattle.std.proofs.Common.{List, [], ◌++◌, Result, Ok, Err, refl, sym, ap, ◌∙◌, append-nil, append_assoc}
 use Rattle.std.specs.Prelude.{OnErr}
-use Rattle.tiff_dir.specs.Needs.{Extent, IsEndOf}
+use Rattle.extents.specs.Extent.{Extent}
+use Rattle.tiff_dir.specs.Needs.{IsEndOf}
 use Rattle.range_cache.specs.Cache.{Blocks}
-use Rattle.cached_reader.specs.Going.{AreSame}
+use Rattle.cog_reader.specs.Going.{AreSame}
 
 -- ---- ends of lists
 

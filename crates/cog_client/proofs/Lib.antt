@@ -13,7 +13,7 @@ pub mod FedLemmas
 pub mod BodyLemmas
 pub mod HeadLemmas
 pub mod FeedLemmas
-pub mod ArrivalLemmas
+pub mod PartialAnswerLemmas
 pub mod FollowLemmas
 pub mod StopLemmas
 pub mod EndLemmas

@@ -9,8 +9,8 @@ use Rattle.std.proofs.lemmas.Bool.Decides.{nat_tests}
 use Rattle.std.proofs.lemmas.List.{length-append, take-append-drop, take_all}
 use Rattle.std.proofs.lemmas.Option.{none-some, same_Some}
 use Rattle.std.proofs.lemmas.Slice.Eq.{bytes_eq-Decides}
-use Rattle.tiff_dir.specs.declared.span.Span.{Span}
-use Rattle.tiff_dir.specs.Needs.{Extent}
+use Rattle.extents.specs.declared.span.Span.{Span}
+use Rattle.extents.specs.Extent.{Extent}
 use Rattle.http_range.specs.declared.range.Resolved.TheVariants.{Part, Whole}
 use Rattle.http_range.specs.declared.reading.Why.{Why}
 use Rattle.http_range.specs.declared.reading.Why.TheVariants.{Cut}
@@ -23,7 +23,7 @@ use Rattle.http_range.specs.Reading.{front_seen, reply_seen, ReadsAnswer}
 use Rattle.http_range.specs.declared.reply.Reply.TheVariants.{R416}
 use Rattle.http_range.specs.Reply.{head_text}
 use Rattle.http_range.specs.Response.{Response, IsAnswer, is_current, refused, response_to_client, serve_part, text_of, ending}
-use Rattle.tiff_dir.specs.Block.{blocks, first_block, is_whole}
+use Rattle.extents.specs.Block.{blocks, first_block, is_whole}
 use Rattle.range_cache.specs.Cache.{Blocks, numbers}
 use Rattle.range_cache.specs.Laws.{FoundAreThere, MissingIsFew, MissingIsFewer, MissingIsSame, OnlyWholeAreBrought, StoredStay, WholeAreBrought, WholeAreFew}
 use Rattle.range_cache.specs.Numbers.{AreGone, has}
@@ -37,7 +37,7 @@ use Rattle.cog_client.specs.Case.{Revision, case_of, is_beside}
 use Rattle.cog_client.specs.Take.{Holding, IsIgnored, asked_or_first, brought_by, revision_of_piece, stored_of, take as taken, take_by}
 use Rattle.cog_client.specs.Client.{ClientState, Knows, asked_of, blocks_of, holding, host_of, name_of, revision_of, tag_of, to_come, closes}
 use Rattle.cog_client.specs.Keeps.{AsksFor, DeliversKeeping, Lacks, StaysOf}
-use Rattle.cached_reader.specs.Going.{AreSame}
+use Rattle.cog_reader.specs.Going.{AreSame}
 use Rattle.cog_client.specs.Progress.{BringsOn, IsGiven, IsOwnAnswer, IsServed, OwnAnswersAreServed, ServedBringOn, left, left_of}
 use Rattle.cog_client.proofs.DeliverLemmas.{piece_at}
 use Rattle.cog_client.proofs.ProgressLemmas.{LengthsAreKnown, first_split, inside, known_length, left_on, missing_inside}

@@ -9,20 +9,21 @@ use Rattle.std.proofs.lemmas.List.Sums.{sum_by-append, sum_by-cons}
 use Rattle.std.proofs.lemmas.List.Elements.{filter-append}
 use Rattle.std.proofs.lemmas.Option.{none-some, same_Some}
 use Rattle.tiff_dir.specs.declared.query.Query.{Query}
-use Rattle.tiff_dir.specs.declared.span.Span.{Span}
-use Rattle.tiff_dir.specs.Needs.{Extent, IsEndOf, ends_past}
+use Rattle.extents.specs.declared.span.Span.{Span}
+use Rattle.extents.specs.Extent.{Extent, ends_past}
+use Rattle.tiff_dir.specs.Needs.{IsEndOf}
 use Rattle.tiff_dir.specs.Query.{blocks_of_extent as touched, cost, needs}
-use Rattle.tiff_dir.specs.Block.{blocks, end_of, first_block}
+use Rattle.extents.specs.Block.{blocks, end_of, first_block}
 use Rattle.range_cache.specs.Cache.{Blocks, Holds, numbers}
 use Rattle.range_cache.specs.Laws.{FoundAreThere, HaveSame, MissingIsFew, MissingIsSame, MissingIsSome}
 use Rattle.range_cache.specs.Numbers.{missing}
 use Rattle.cog_reader.specs.Reader as reader
-use Rattle.cog_client.specs.declared.source.Source.{Source}
+use Rattle.cog_client.specs.declared.revision_reader.RevisionReader.{RevisionReader}
 use Rattle.cog_client.specs.Case.{Revision}
 use Rattle.http_range.specs.Book.{Publication, In}
 use Rattle.cog_client.specs.Client.{AgreementIsSeen, ClientAgrees, ClientState, Knows, KnowsBy, KnowsOne, IsReadingOf, ahead_of, asked_of, blocks_of, name_of, query_of, report_of, revision_in, revision_of, to_come}
 use Rattle.cog_client.specs.Keeps.{AsksFor, ComesFirst, Lacks, Misses}
-use Rattle.cached_reader.specs.Going.{AreSame, AreTouched, LooksAtOneRange, OneTouches}
+use Rattle.cog_reader.specs.Going.{AreSame, AreTouched, LooksAtOneRange, OneTouches}
 use Rattle.cog_client.specs.Progress.{AskingLeavesAsMuch, CostIsMost, DeliveryReports, GoingOnLeavesNoMore, IsAtWork, IsGone, IsOfNeeded, NeededAreAsked, OneRangeIsAsked, OpeningLeavesCost, RequestReports, blocks_of_ranges, left, left_of, missing_of_range}
 
 -- ---- sums over ranges
@@ -109,13 +110,13 @@ opening_left few old new q f opens knows = end_cost few f new q (opens.come f kn
 
 -- what a reader agrees with has the reader's length
 abbrev pub LengthsAreKnown : Type 0
-LengthsAreKnown = (r : reader.ReaderState) (f : List ℕ) → reader.ReaderAgrees r f → length f ≡ reader.complete_of r
+LengthsAreKnown = (r : reader.ReaderState) (f : List ℕ) → reader.ReaderAgrees r f → length f ≡ reader.file_length_of r
 
 pub known_length : LengthsAreKnown → (f : List ℕ) (c : ClientState) (v : Revision) → revision_of c ≡ Some v → Knows f c → length f ≡ v.complete
 unfolding Knows revision_of
 known_length lengths f c v is knows = at c.source refl is knows
   where
-    at : (o : Option Source) → c.source ≡ o → option_map revision_in o ≡ Some v → IfSome o (KnowsBy f c) → length f ≡ v.complete
+    at : (o : Option RevisionReader) → c.source ≡ o → option_map revision_in o ≡ Some v → IfSome o (KnowsBy f c) → length f ≡ v.complete
     at None e is k = absurd (none-some v is)
     at (Some s) e is k =
         let reading = subst (λ o. IfSome o (IsReadingOf c.query c.report)) e k.sound.reading in
@@ -126,7 +127,7 @@ blocks_known : (f : List ℕ) (c : ClientState) (v : Revision) → revision_of c
 unfolding Knows revision_of blocks_of
 blocks_known f c v is knows = at c.source refl is knows
   where
-    at : (o : Option Source) → c.source ≡ o → option_map revision_in o ≡ Some v → IfSome o (KnowsBy f c) → Holds f c.cache
+    at : (o : Option RevisionReader) → c.source ≡ o → option_map revision_in o ≡ Some v → IfSome o (KnowsBy f c) → Holds f c.cache
     at None e is k = absurd (none-some v is)
     at (Some s) e is k = k.blocks
 

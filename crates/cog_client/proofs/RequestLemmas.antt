@@ -1,24 +1,24 @@
--- Asking: what is asked for is no part of what is known.
+-- RequestOptions: what is asked for is no part of what is known.
 use Rattle.std.proofs.Common.{◌≡◌, ℕ, List, Option, Some, None, true, false, refl, sym, ap, ◌∙◌, subst, arith, inl, inr}
 use Rattle.std.specs.Prelude.{IfSome, IsSome, is_some}
 use Rattle.std.proofs.lemmas.Option.{none-some}
 use Rattle.std.proofs.lemmas.Bool.{false≢true}
 use Rattle.tiff_dir.specs.declared.query.Query.{Query}
-use Rattle.tiff_dir.specs.declared.span.Span.{Span}
-use Rattle.tiff_dir.specs.Needs.{Extent}
+use Rattle.extents.specs.declared.span.Span.{Span}
+use Rattle.extents.specs.Extent.{Extent}
 use Rattle.http_range.specs.Ask.{CanAsk}
 use Rattle.std.specs.Option.{option_map}
-use Rattle.tiff_dir.specs.Block.{blocks}
+use Rattle.extents.specs.Block.{blocks}
 use Rattle.range_cache.specs.Cache.{Blocks}
-use Rattle.cog_client.specs.declared.asking.Asking.{Asking}
+use Rattle.cog_client.specs.declared.request_options.RequestOptions.{RequestOptions}
 use Rattle.cog_client.specs.declared.report.Report.{Report}
-use Rattle.cog_client.specs.declared.source.Source.{Source}
+use Rattle.cog_client.specs.declared.revision_reader.RevisionReader.{RevisionReader}
 use Rattle.cog_client.specs.Case.{Revision}
-use Rattle.cog_client.specs.Feeding.{Feed, TakesNoBody, nothing_fed}
+use Rattle.cog_client.specs.AnswerPhase.{Feed, TakesNoBody, nothing_fed}
 use Rattle.cog_client.specs.Client.{ClientState, IsAlone, IsClient, IsFew, IsStanding, Knows, ahead_of, asked_of, blocks_of, feed_of, host_of, how_of, name_of, query_of, report_of, revision_of, tag_of, to_come, unread}
 use Rattle.cog_client.specs.Calls.{IsAsked, IsIdle, request_for, unless_reported}
 use Rattle.cog_client.specs.Keeps.{AsksFor, AsksLike, GoesOnKeeping, ComesFirst, Lacks, RequestsKeeping}
-use Rattle.cached_reader.specs.Going.{AreTouched, IsMissing, IsMissingWithRoom}
+use Rattle.cog_reader.specs.Going.{AreTouched, IsMissing, IsMissingWithRoom}
 use Rattle.cog_client.proofs.GoingLemmas.{end_refl, same_refl}
 use Rattle.cog_client.proofs.ClientLemmas.{agrees_by, goes_by, goes_trans, known, rehowed}
 
@@ -33,13 +33,13 @@ few_missing b complete r ahead span m =
 
 -- ---- what is asked for changes nothing that is known
 
-module _ (e e' : Feed) (how : Asking) (h n : List ℕ) (q : Option Query) (a asked : Option Span) (b : Blocks) (r : Option Report) where
-  reasked_knows : (s : Option Source) → IsClient (known e' how h n q asked s b r) → (f : List ℕ) → Knows f (known e how h n q a s b r) → Knows f (known e' how h n q asked s b r)
+module _ (e e' : Feed) (how : RequestOptions) (h n : List ℕ) (q : Option Query) (a asked : Option Span) (b : Blocks) (r : Option Report) where
+  reasked_knows : (s : Option RevisionReader) → IsClient (known e' how h n q asked s b r) → (f : List ℕ) → Knows f (known e how h n q a s b r) → Knows f (known e' how h n q asked s b r)
   unfolding Knows
   reasked_knows None c f k = tt
   reasked_knows (Some s) c f k = record { reader = k.reader; blocks = k.blocks; report = k.report; sound = c }
 
-  pub reasked : (s : Option Source) → IsClient (known e' how h n q asked s b r) → GoesOnKeeping (known e how h n q a s b r) (known e' how h n q asked s b r)
+  pub reasked : (s : Option RevisionReader) → IsClient (known e' how h n q asked s b r) → GoesOnKeeping (known e how h n q a s b r) (known e' how h n q asked s b r)
   unfolding how_of host_of name_of query_of revision_of blocks_of to_come unread
   reasked s c =
       goes_by (known e how h n q a s b r) (known e' how h n q asked s b r) (record { host = refl; name = refl; query = refl; how = refl }) refl (same_refl b)
@@ -52,11 +52,11 @@ standing_still q a None h = tt
 standing_still q a (Some r) h = (h.0, refl)
 
 -- and of an answer nothing is kept
-pub alone_still : (s : Option Source) (b : Blocks) (r : Option Report) (e e' : Feed) → e' ≡ nothing_fed → IsAlone s b r e → IsAlone s b r e'
+pub alone_still : (s : Option RevisionReader) (b : Blocks) (r : Option Report) (e e' : Feed) → e' ≡ nothing_fed → IsAlone s b r e → IsAlone s b r e'
 alone_still None b r e e' dropped alone = (alone.0, (alone.1.0, subst TakesNoBody (sym dropped) tt))
 alone_still (Some s) b r e e' dropped alone = tt
 
-module _ (e e' : Feed) (dropped : e' ≡ nothing_fed) (how : Asking) (h n : List ℕ) (q : Option Query) (a : Option Span) (s : Option Source) (b : Blocks) (r : Option Report) where
+module _ (e e' : Feed) (dropped : e' ≡ nothing_fed) (how : RequestOptions) (h n : List ℕ) (q : Option Query) (a : Option Span) (s : Option RevisionReader) (b : Blocks) (r : Option Report) where
   unasked_sound : IsClient (known e how h n q a s b r) → IsClient (known e' how h n q None s b r)
   unasked_sound c = record { hosted = c.hosted; named = c.named; alone = alone_still s b r e e' dropped c.alone; reading = c.reading; tiles = c.tiles; standing = standing_still q a r c.standing; few = tt }
 
@@ -98,7 +98,7 @@ asks_back old new None ahead span blocks knows come asks = asks
 asks_back old new (Some v) ahead span blocks knows come l = lacks_back old new v ahead span blocks knows come l
 
 -- however it asks, this is what it lacks
-pub asks_like : (c : ClientState) (how : Asking) → AsksLike how c (record c { how = how })
+pub asks_like : (c : ClientState) (how : RequestOptions) → AsksLike how c (record c { how = how })
 unfolding how_of name_of revision_of blocks_of to_come
 asks_like c how = record {
   seen = refl;
@@ -117,7 +117,7 @@ few_asked : (c : ClientState) (v : Option Revision) (ahead : ℕ) (span : Span) 
 few_asked c None ahead span is = let first = ap (λ (s : Span). s.first) is in let last = ap (λ (s : Span). s.last) is in omega arith
 few_asked c (Some v) ahead span l = few_missing (blocks_of c) v.complete l.range ahead span l.missing
 
-module _ (e : Feed) (how : Asking) (h n : List ℕ) (q : Option Query) (a : Option Span) (s : Option Source) (b : Blocks) (r : Option Report) (span : Span) where
+module _ (e : Feed) (how : RequestOptions) (h n : List ℕ) (q : Option Query) (a : Option Span) (s : Option RevisionReader) (b : Blocks) (r : Option Report) (span : Span) where
   -- the same client, before and after it asks for this
   abbrev pub mid : ClientState
   mid = known e how h n q a s b r
@@ -189,7 +189,7 @@ none_of None h = refl
 none_of (Some a) h = cc
 
 -- what is kept of an answer is dropped
-pub cleared : (e e' : Feed) (how : Asking) (h n : List ℕ) (q : Option Query) (a : Option Span) (s : Option Source) (b : Blocks) (r : Option Report) → e' ≡ nothing_fed
+pub cleared : (e e' : Feed) (how : RequestOptions) (h n : List ℕ) (q : Option Query) (a : Option Span) (s : Option RevisionReader) (b : Blocks) (r : Option Report) → e' ≡ nothing_fed
     → IsClient (known e how h n q a s b r) → IsClient (known e' how h n q a s b r)
 cleared e e' how h n q a s b r dropped c = record {
   hosted = c.hosted;

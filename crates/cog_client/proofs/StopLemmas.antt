@@ -4,8 +4,8 @@ use Rattle.std.proofs.lemmas.Bool.{leb-true}
 use Rattle.std.proofs.lemmas.Option.{none-some}
 use Rattle.std.specs.Prelude.{IfSome, IsSome, is_some}
 use Rattle.tiff_dir.specs.declared.query.Query.{Query}
-use Rattle.tiff_dir.specs.declared.span.Span.{Span}
-use Rattle.tiff_dir.specs.declared.limits.TheConstants.{BLOCK_SIZE}
+use Rattle.extents.specs.declared.span.Span.{Span}
+use Rattle.extents.specs.declared.limits.TheConstants.{BLOCK_SIZE}
 use Rattle.http_range.specs.Announced.{Announced, body_behind}
 use Rattle.http_range.specs.Laws.{FrontsAreRead}
 use Rattle.http_range.specs.Piece.{SeenPiece}
@@ -14,19 +14,19 @@ use Rattle.range_cache.specs.Cache.{Blocks}
 use Rattle.range_cache.specs.Laws.{BesideBringNone, FrontHolds}
 use Rattle.cog_reader.specs.Reader as reader
 use Rattle.cog_reader.specs.Reader.{ReaderState}
-use Rattle.cog_client.specs.declared.asking.Asking.{Asking}
+use Rattle.cog_client.specs.declared.request_options.RequestOptions.{RequestOptions}
 use Rattle.cog_client.specs.declared.case.Case.{Case}
 use Rattle.cog_client.specs.declared.case.Case.TheVariants.{Ignored, Adopted, Restarted, Accepted}
 use Rattle.cog_client.specs.declared.report.Report.{Report}
-use Rattle.cog_client.specs.declared.source.Source.{Source}
-use Rattle.cog_client.specs.Arrival.{StopsInBytes}
+use Rattle.cog_client.specs.declared.revision_reader.RevisionReader.{RevisionReader}
+use Rattle.cog_client.specs.PartialAnswer.{StopsInBytes}
 use Rattle.cog_client.specs.Body.{IsStopped}
 use Rattle.cog_client.specs.Case.{Revision, case_of, is_beside}
 use Rattle.cog_client.specs.Client.{ClientState, IsAlone, IsClient, IsStanding, MayKeep, asked_of, blocks_of, feed_of, host_of, how_of, name_of, query_of, report_of, revision_of}
 use Rattle.cog_client.specs.Fed.{case_of_head, piece_with}
 use Rattle.cog_client.specs.FedClient.{Begins, FedAllBut, FedBefore, FedBody, case_for}
-use Rattle.cog_client.specs.Feeding.{Feed, TakesNoBody, waits, unused, passed, follows}
-use Rattle.cached_reader.specs.Going.{AreSame}
+use Rattle.cog_client.specs.AnswerPhase.{Feed, TakesNoBody, waits, unused, passed, follows}
+use Rattle.cog_reader.specs.Going.{AreSame}
 use Rattle.cog_client.specs.Keeps.{StopsDelivery}
 use Rattle.cog_client.specs.Steps.{Stores, StopsStoring}
 use Rattle.cog_client.specs.Take.{brought_by, stored_front}
@@ -68,7 +68,7 @@ module _ (law : FrontHolds) (mid new : ClientState) (same : new ≡ record mid {
       subst (Stores p span k mid) (sym same)
       (by_source (λ o. IsClient (record mid { source = o; cache = blocks_of new; feed = feed_of new })
       → Stores p span k (record mid { source = o }) (record mid { source = o; cache = blocks_of new; feed = feed_of new }))
-      (λ (x : Source) c. stores_front mid.feed (feed_of new) mid.how mid.host mid.name mid.query mid.asked x mid.cache mid.report (blocks_of new) p span k law c is)
+      (λ (x : RevisionReader) c. stores_front mid.feed (feed_of new) mid.how mid.host mid.name mid.query mid.asked x mid.cache mid.report (blocks_of new) p span k law c is)
       mid.source reads (subst IsClient same sound))
 
 -- ---- the case of its head is that of the answer, unless it is beside what is asked for
@@ -117,7 +117,7 @@ stops_from p s new e st = record {
   file = λ f size piece knows. stays_refed s new e f (st.file f size piece (refed s e f knows));
 }
 
-module _ (law : FrontsAreRead) (lengths : (r : ReaderState) (f : List ℕ) → reader.ReaderAgrees r f → length f ≡ reader.complete_of r) (s mid new : ClientState) (text : List ℕ) (head : Announced) (reads : ReadsHead text (Ok head)) where
+module _ (law : FrontsAreRead) (lengths : (r : ReaderState) (f : List ℕ) → reader.ReaderAgrees r f → length f ≡ reader.file_length_of r) (s mid new : ClientState) (text : List ℕ) (head : Announced) (reads : ReadsHead text (Ok head)) where
   abbrev piece : SeenPiece
   piece = piece_with head (body_behind head text)
 
@@ -136,7 +136,7 @@ asked_before Adopted head s mid span b asks is = absurd (let wrong : Adopted ≡
 asked_before Restarted head s mid span b asks is = absurd (let wrong : Restarted ≡ Accepted = is in cc)
 asked_before Accepted head s mid span (e, same) asks is = sym (ap asked_of same) ∙ asks
 
-module _ (law : FrontsAreRead) (lengths : (r : ReaderState) (f : List ℕ) → reader.ReaderAgrees r f → length f ≡ reader.complete_of r) (holds : FrontHolds) (beside : BesideBringNone) (s : ClientState) (p bytes : List ℕ) (old new : ClientState)
+module _ (law : FrontsAreRead) (lengths : (r : ReaderState) (f : List ℕ) → reader.ReaderAgrees r f → length f ≡ reader.file_length_of r) (holds : FrontHolds) (beside : BesideBringNone) (s : ClientState) (p bytes : List ℕ) (old new : ClientState)
     (same : new ≡ record old { cache = blocks_of new; feed = feed_of new }) (dropped : TakesNoBody (feed_of new)) (sound : IsClient new)
     (stops : StopsInBytes (feed_of old) (blocks_of old) bytes (blocks_of new)) where
   abbrev At : Feed → Type 0
@@ -174,16 +174,16 @@ module _ (law : FrontsAreRead) (lengths : (r : ReaderState) (f : List ℕ) → r
   ]
 
 -- a client stays sound where blocks of a body were stored
-pub stopped_sound : (e e' : Feed) (how : Asking) (h n : List ℕ) (q : Option Query) (a : Option Span) (s : Option Source) (b b' : Blocks) (r : Option Report) (bytes : List ℕ)
+pub stopped_sound : (e e' : Feed) (how : RequestOptions) (h n : List ℕ) (q : Option Query) (a : Option Span) (s : Option RevisionReader) (b b' : Blocks) (r : Option Report) (bytes : List ℕ)
     → IsClient (known e how h n q a s b r) → b'.capacity ≡ b.capacity → StopsInBytes e b bytes b' → IsClient (known e' how h n q a s b' r)
 stopped_sound e e' how h n q a s b b' r bytes c room stops =
     record { hosted = c.hosted; named = c.named; alone = at s e c.alone stops; reading = c.reading; tiles = kept s c.tiles; standing = c.standing; few = c.few }
   where
-    kept : (o : Option Source) → IfSome o (MayKeep b) → IfSome o (MayKeep b')
+    kept : (o : Option RevisionReader) → IfSome o (MayKeep b) → IfSome o (MayKeep b')
     kept None k = tt
     kept (Some o) k = k ∙ ap (λ (n : ℕ). n * BLOCK_SIZE) (sym room)
 
-    at : (o : Option Source) (x : Feed) → IsAlone o b r x → StopsInBytes x b bytes b' → IsAlone o b' r e'
+    at : (o : Option RevisionReader) (x : Feed) → IsAlone o b r x → StopsInBytes x b bytes b' → IsAlone o b' r e'
     at (Some o) x alone stops = tt
     at None (waits p) alone stops = absurd stops
     at None (unused w) alone stops = absurd stops

@@ -28,9 +28,9 @@ use Rattle.cog_reader.specs.declared.outcome.Info.{Info}
 use Rattle.cog_reader.specs.declared.outcome.Outcome.{Outcome}
 use Rattle.cog_reader.specs.declared.outcome.Outcome.TheVariants as outcomes
 use Rattle.cog_reader.specs.declared.outcome.Window.{Window}
-use Rattle.cog_reader.specs.Fields.{geo_bytes}
+use Rattle.cog_reader.specs.GeoFields.{geo_bytes}
 use Rattle.cog_reader.specs.Outcome.{IsInfoOf, IsTrueOf, IsWindowOf, items_of}
-use Rattle.tile_mosaic.specs.Samples.{samples_in}
+use Rattle.tile_plan.specs.Samples.{samples_in}
 use Rattle.cog_client.specs.Report.{Refuses, Said, Shows, Tells, Told, TruthIsTold, items_in, said_of}
 
 -- ---- windows

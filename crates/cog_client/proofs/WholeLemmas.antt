@@ -5,12 +5,12 @@ use Rattle.std.specs.Option.{option_map}
 use Rattle.std.proofs.lemmas.Bool.{false≢true}
 use Rattle.std.proofs.lemmas.Option.{none-some, same_Some}
 use Rattle.tiff_dir.specs.declared.query.Query.{Query}
-use Rattle.tiff_dir.specs.declared.span.Span.{Span}
+use Rattle.extents.specs.declared.span.Span.{Span}
 use Rattle.tiff_dir.specs.Query.{cost}
 use Rattle.http_range.specs.Book.{Publication, Book, HasDistinctTags, In}
 use Rattle.http_range.specs.Honest.{IsPieceOfBook, IsReadAs}
 use Rattle.http_range.specs.Laws.{TagsTellOne}
-use Rattle.cog_client.specs.declared.asking.Asking.{Asking}
+use Rattle.cog_client.specs.declared.request_options.RequestOptions.{RequestOptions}
 use Rattle.cog_client.specs.declared.report.Report.{Report}
 use Rattle.cog_client.specs.Case.{Revision}
 use Rattle.cog_client.specs.Client.{ClientAgrees, ClientState, Knows, KnowsOne, asked_of, how_of, name_of, query_of, report_of, revision_of, tag_of}
@@ -36,7 +36,7 @@ record IsSeenAs (old new : ClientState) : Type 0 where
   revision : revision_of new ≡ revision_of old
   report : report_of new ≡ report_of old
 
-seen_as : (how : Asking) (old new : ClientState) → AsksLike how old new → IsSeenAs old new
+seen_as : (how : RequestOptions) (old new : ClientState) → AsksLike how old new → IsSeenAs old new
 unfolding query_of asked_of revision_of report_of
 seen_as how old new h = record { query = ap query_of h.seen; asked = ap asked_of h.seen; revision = ap revision_of h.seen; report = ap report_of h.seen }
 

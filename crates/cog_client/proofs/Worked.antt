@@ -1,6 +1,6 @@
 -- What is left of ranges of a file of 20 bytes, which is one block.
 use Rattle.std.proofs.Common.{◌≡◌, ℕ, List, [], ◌∷◌, replicate, refl}
-use Rattle.tiff_dir.specs.Needs.{Extent}
+use Rattle.extents.specs.Extent.{Extent}
 use Rattle.range_cache.specs.Numbers.{missing}
 use Rattle.cog_client.specs.Progress.{blocks_of_ranges, left_of}
 

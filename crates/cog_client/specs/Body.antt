@@ -1,8 +1,8 @@
 -- The body of an answer that comes in pieces, between two of them.
 use Rattle.std.specs.Prelude.{if◌then◌else◌, ◌/◌, [], ◌≡◌, ◌⊎◌, ℕ, ◌+◌, ◌-◌, ◌*◌, ◌<◌, ◌≤◌, true, false, List, ◌++◌, length, take, drop}
-use Rattle.tiff_dir.specs.declared.span.Span.{Span}
-use Rattle.tiff_dir.specs.declared.limits.TheConstants.{BLOCK_SIZE}
-use Rattle.tiff_dir.specs.Block.{end_of}
+use Rattle.extents.specs.declared.span.Span.{Span}
+use Rattle.extents.specs.declared.limits.TheConstants.{BLOCK_SIZE}
+use Rattle.extents.specs.Block.{end_of}
 use Rattle.http_range.specs.Announced.{Announced}
 use Rattle.range_cache.specs.Cache.{Block, Blocks, stored}
 use Rattle.range_cache.specs.Laws.{begun}

@@ -2,8 +2,8 @@
 use Rattle.std.specs.Prelude.{◌≡◌, ℕ, ◌⊎◌, true, if◌then◌else◌, List, [], Option, Some, None, IfSome, IsSome, is_some, Result}
 use Rattle.std.specs.Option.{option_map}
 use Rattle.tiff_dir.specs.declared.query.Query.{Query}
-use Rattle.tiff_dir.specs.declared.span.Span.{Span}
-use Rattle.tiff_dir.specs.Needs.{Extent}
+use Rattle.extents.specs.declared.span.Span.{Span}
+use Rattle.extents.specs.Extent.{Extent}
 use Rattle.http_range.specs.declared.reading.Why.{Why}
 use Rattle.http_range.specs.Ask.{request_by}
 use Rattle.http_range.specs.Piece.{SeenPiece}
@@ -11,10 +11,10 @@ use Rattle.http_range.specs.Reading.{ReadsAnswer}
 use Rattle.cog_client.specs.declared.delivered.Delivered.{Delivered}
 use Rattle.cog_client.specs.declared.report.Report.{Report}
 use Rattle.cog_client.specs.Case.{Revision}
-use Rattle.cog_client.specs.Feeding.{nothing_fed}
+use Rattle.cog_client.specs.AnswerPhase.{nothing_fed}
 use Rattle.cog_client.specs.Take.{IsIgnored, emptied, first_span, take}
 use Rattle.cog_client.specs.Client.{ClientState, ahead_of, asked_of, blocks_of, closes, feed_of, holding, host_of, how_of, name_of, query_of, report_of, revision_of, tag_of}
-use Rattle.cached_reader.specs.Going.{AreSame, IsMissing}
+use Rattle.cog_reader.specs.Going.{AreSame, IsMissing}
 
 -- host, name, query and how it asks stay
 pub record SameClient (old new : ClientState) : Type 0 where

@@ -1,7 +1,7 @@
 -- How an answer is taken: which case of the table applies to a piece of a file.
 use Rattle.std.specs.Prelude.{ℕ, ◌+◌, Bool, not, nat_le, ◌==◌, if◌then◌else◌, min, max, List, length, Option, Some, None}
 use Rattle.std.specs.Str.{bytes_eq}
-use Rattle.tiff_dir.specs.declared.span.Span.{Span}
+use Rattle.extents.specs.declared.span.Span.{Span}
 use Rattle.http_range.specs.Piece.{SeenPiece}
 use Rattle.cog_client.specs.declared.case.Case.{Case}
 use Rattle.cog_client.specs.declared.case.Case.TheVariants.{Ignored, Adopted, Restarted, Accepted}

@@ -1,26 +1,26 @@
 -- The words for what callers know of a client, and when what it holds is of a published file.
-use Rattle.cached_reader.specs.declared.ahead.TheConstants.{MAX_BLOCKS}
-use Rattle.cached_reader.specs.Going.{CachedReader, work}
+use Rattle.cog_reader.specs.declared.ahead.TheConstants.{MAX_BLOCKS}
+use Rattle.cog_reader.specs.Going.{CachedReader, work}
 use Rattle.std.specs.Prelude.{◌≡◌, ℕ, ◌+◌, ◌*◌, ◌<◌, Bool, not, ◌||◌, nat_lt, IsTrue, if◌then◌else◌, List, [], length, Option, Some, None, IfSome, IsSomeAnd, is_some, ⊤}
 use Rattle.std.specs.Option.{option_map, option_map_or}
 use Rattle.tiff_dir.specs.declared.query.Query.{Query}
-use Rattle.tiff_dir.specs.declared.span.Span.{Span}
-use Rattle.tiff_dir.specs.Needs.{Extent}
+use Rattle.extents.specs.declared.span.Span.{Span}
+use Rattle.extents.specs.Extent.{Extent}
 use Rattle.http_range.specs.Names.{is_host, is_name}
 use Rattle.http_range.specs.Book.{Publication, Book, In}
 use Rattle.range_cache.specs.declared.cache.TheConstants.{MAX_CAPACITY, MIN_CAPACITY}
-use Rattle.tiff_dir.specs.declared.limits.TheConstants.{BLOCK_SIZE}
+use Rattle.extents.specs.declared.limits.TheConstants.{BLOCK_SIZE}
 use Rattle.range_cache.specs.Cache.{Blocks, Holds}
 use Rattle.cog_reader.specs.Outcome.{IsTrueOf}
 use Rattle.cog_reader.specs.Reader as reader
-use Rattle.tile_mosaic.specs.Unpacked.{KeptTile}
-use Rattle.cog_client.specs.declared.asking.Asking.{Asking}
+use Rattle.tile_plan.specs.TileCache.{KeptTile}
+use Rattle.cog_client.specs.declared.request_options.RequestOptions.{RequestOptions}
 use Rattle.cog_client.specs.declared.error.ClientError.{ClientError}
 use Rattle.cog_client.specs.declared.error.ClientError.TheVariants.{Host, Name, Blocks as BadBlocks, Memory}
 use Rattle.cog_client.specs.declared.report.Report.{Report}
-use Rattle.cog_client.specs.declared.source.Source.{Source}
+use Rattle.cog_client.specs.declared.revision_reader.RevisionReader.{RevisionReader}
 use Rattle.cog_client.specs.Case.{Revision}
-use Rattle.cog_client.specs.Feeding.{Feed, TakesNoBody}
+use Rattle.cog_client.specs.AnswerPhase.{Feed, TakesNoBody}
 use Rattle.cog_client.specs.Take.{Holding}
 
 -- ---- making a client
@@ -50,18 +50,18 @@ IsClientRefusal refusal error = refusal ≡ Some error
 -- how it asks; host and name; the query, what is asked for, the revision that is read, the blocks, the report, and what is kept of
 -- an answer that comes in pieces
 pub record ClientState : Type 0 where
-  pub how : Asking
+  pub how : RequestOptions
   pub host : List ℕ
   pub name : List ℕ
   pub query : Option Query
   pub asked : Option Span
-  pub source : Option Source
+  pub source : Option RevisionReader
   pub cache : Blocks
   pub report : Option Report
   pub feed : Feed
 
 -- How it asks.
-unfoldable pub how_of : ClientState → Asking
+unfoldable pub how_of : ClientState → RequestOptions
 how_of c = c.how
 
 unfoldable pub host_of : ClientState → List ℕ
@@ -86,7 +86,7 @@ query_of c = c.query
 unfoldable pub asked_of : ClientState → Option Span
 asked_of c = c.asked
 
-abbrev pub revision_in : Source → Revision
+abbrev pub revision_in : RevisionReader → Revision
 revision_in s = record { tag = s.tag; complete = s.complete }
 
 -- The tag and the length of the file that is read.
@@ -107,19 +107,19 @@ feed_of c = c.feed
 
 -- The reader of the file, and the blocks that it reads from, none without a revision.
 unfoldable pub reader_of : ClientState → Option CachedReader
-reader_of c = option_map (λ (s : Source). work s.reader c.cache) c.source
+reader_of c = option_map (λ (s : RevisionReader). work s.reader c.cache) c.source
 
 -- The tiles that are kept unpacked, none without a revision.
 unfoldable pub tiles_of : ClientState → List KeptTile
-tiles_of c = option_map_or (λ (s : Source). (reader.tiles_of s.reader).tiles) c.source []
+tiles_of c = option_map_or (λ (s : RevisionReader). (reader.tiles_of s.reader).tiles) c.source []
 
 -- The ranges of the file that the query still needs, none without a revision.
 unfoldable pub to_come : ClientState → List ℕ → List Extent
-to_come c f = option_map_or (λ (s : Source). reader.to_come s.reader f) c.source []
+to_come c f = option_map_or (λ (s : RevisionReader). reader.to_come s.reader f) c.source []
 
 -- What a query needs of the file but for the directories and the arrays that are held.
 unfoldable pub unread : ClientState → List ℕ → Query → List Extent
-unread c f q = option_map_or (λ (s : Source). reader.unread s.reader f q) c.source []
+unread c f q = option_map_or (λ (s : RevisionReader). reader.unread s.reader f q) c.source []
 
 -- All directories of the file that is read are known.
 unfoldable pub AreDirectoriesKnown : ClientState → Type 0
@@ -135,21 +135,21 @@ holding c = record { revision = revision_of c; asked = asked_of c; blocks = bloc
 -- ---- what is true of it
 
 -- where nothing is read, nothing is held, and no body is taken
-abbrev pub IsAlone : Option Source → Blocks → Option Report → Feed → Type 0
+abbrev pub IsAlone : Option RevisionReader → Blocks → Option Report → Feed → Type 0
 IsAlone None b r e = (b.entries ≡ []) × ((r ≡ None) × TakesNoBody e)
 IsAlone (Some s) b r e = ⊤
 
 -- the reader is asked the query, until its answer is the report that stands
-abbrev pub IsReadingOf : Option Query → Option Report → Source → Type 0
+abbrev pub IsReadingOf : Option Query → Option Report → RevisionReader → Type 0
 IsReadingOf q r s =
-    (s.complete ≡ reader.complete_of s.reader) × (reader.query_of s.reader ≡ (if is_some r then None else q))
+    (s.complete ≡ reader.file_length_of s.reader) × (reader.query_of s.reader ≡ (if is_some r then None else q))
 
 -- a report that stands answers the query, and ends what is asked for
 abbrev pub IsStanding : Option Query → Option Span → Report → Type 0
 IsStanding q a r = (q ≡ Some r.query) × (a ≡ None)
 
 -- as many bytes of tiles may be kept unpacked as the blocks may have
-abbrev pub MayKeep : Blocks → Source → Type 0
+abbrev pub MayKeep : Blocks → RevisionReader → Type 0
 MayKeep b s = (reader.tiles_of s.reader).most ≡ b.capacity * BLOCK_SIZE
 
 -- no more than 65 blocks are asked for
@@ -168,10 +168,10 @@ pub record IsClient (c : ClientState) : Type 0 where
 -- ---- what it knows
 
 -- the report has the tag of what is read, and is true of this file
-abbrev pub IsReportOf : List ℕ → Source → Report → Type 0
+abbrev pub IsReportOf : List ℕ → RevisionReader → Report → Type 0
 IsReportOf f s r = (r.tag ≡ s.tag) × IsTrueOf f r.query r.outcome
 
-pub record KnowsBy (f : List ℕ) (c : ClientState) (s : Source) : Type 0 where
+pub record KnowsBy (f : List ℕ) (c : ClientState) (s : RevisionReader) : Type 0 where
   pub reader : reader.ReaderAgrees s.reader f
   pub blocks : Holds f c.cache
   pub report : IfSome c.report (IsReportOf f s)

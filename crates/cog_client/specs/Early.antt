@@ -1,16 +1,16 @@
 -- The requests that a client makes early: before the answer came to what it asks for now.
 use Rattle.std.specs.Prelude.{◌≡◌, ℕ, ◌+◌, ◌-◌, ◌*◌, ◌<◌, ◌≤◌, ◌⊎◌, false, true, List, [], Some, IfSome, IsSomeAnd, slice_get}
 use Rattle.std.specs.List.{All, AllZip}
-use Rattle.tiff_dir.specs.declared.span.Span.{Span}
-use Rattle.tiff_dir.specs.declared.limits.TheConstants.{BLOCK_SIZE}
-use Rattle.tiff_dir.specs.Needs.{Extent}
-use Rattle.tiff_dir.specs.Block.{end_of}
+use Rattle.extents.specs.declared.span.Span.{Span}
+use Rattle.extents.specs.declared.limits.TheConstants.{BLOCK_SIZE}
+use Rattle.extents.specs.Extent.{Extent}
+use Rattle.extents.specs.Block.{end_of}
 use Rattle.http_range.specs.Ask.{CanAsk}
 use Rattle.range_cache.specs.Cache.{numbers}
 use Rattle.range_cache.specs.Numbers.{has}
-use Rattle.cached_reader.specs.declared.ahead.TheConstants.{MAX_BLOCKS}
-use Rattle.cached_reader.specs.Going.{OneTouches}
-use Rattle.cached_reader.specs.Early.{AreApart, IsRunIn, LeavesNothing}
+use Rattle.cog_reader.specs.declared.ahead.TheConstants.{MAX_BLOCKS}
+use Rattle.cog_reader.specs.Going.{OneTouches}
+use Rattle.cog_reader.specs.Early.{AreApart, IsRunIn, LeavesNothing}
 use Rattle.cog_client.specs.Client.{ClientState, Knows, ahead_of, asked_of, blocks_of, closes, host_of, name_of, reader_of, revision_of, tag_of, to_come}
 use Rattle.cog_client.specs.Calls.{request_for}
 

@@ -1,10 +1,10 @@
 -- How an answer that comes in pieces is taken: by its head, and by the body as far as it has come.
 use Rattle.std.specs.Prelude.{◌≡◌, ◌≢◌, ◌⊎◌, ℕ, ◌+◌, ◌*◌, ◌/◌, ◌≤◌, not, ◌==◌, ◌&&◌, nat_le, nat_lt, min, max, Bool, if◌then◌else◌, true, List, [], ◌++◌, length, take as front, drop, Option, Some, None, IfSome, Ok, ⊤}
 use Rattle.std.specs.Str.{bytes_eq}
-use Rattle.tiff_dir.specs.declared.span.Span.{Span}
-use Rattle.tiff_dir.specs.declared.limits.TheConstants.{BLOCK_SIZE}
-use Rattle.tiff_dir.specs.Block.{end_of}
-use Rattle.http_parts.specs.declared.limits.TheConstants.{HEAD_LIMIT}
+use Rattle.extents.specs.declared.span.Span.{Span}
+use Rattle.extents.specs.declared.limits.TheConstants.{BLOCK_SIZE}
+use Rattle.extents.specs.Block.{end_of}
+use Rattle.http_fields.specs.declared.limits.TheConstants.{HEAD_LIMIT}
 use Rattle.http_range.specs.declared.reading.Why.{Why}
 use Rattle.http_range.specs.declared.reading.Why.TheVariants.{Cut, Head}
 use Rattle.http_range.specs.Piece.{SeenPiece}

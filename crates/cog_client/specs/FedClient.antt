@@ -8,12 +8,12 @@ use Rattle.cog_client.specs.declared.body.Body.{Body}
 use Rattle.cog_client.specs.declared.case.Case.{Case}
 use Rattle.cog_client.specs.declared.case.Case.TheVariants.{Ignored, Adopted, Restarted, Accepted}
 use Rattle.cog_client.specs.declared.delivered.Ignored as why
-use Rattle.cog_client.specs.Arrival.{IsHeadless}
+use Rattle.cog_client.specs.PartialAnswer.{IsHeadless}
 use Rattle.cog_client.specs.Body.{IsBody}
 use Rattle.cog_client.specs.Case.{Revision}
 use Rattle.cog_client.specs.Client.{ClientAgrees, ClientState, asked_of, blocks_of, feed_of, name_of, revision_of}
 use Rattle.cog_client.specs.Fed.{case_of_head}
-use Rattle.cog_client.specs.Feeding.{Feed, nothing_fed, passed, follows}
+use Rattle.cog_client.specs.AnswerPhase.{Feed, nothing_fed, passed, follows}
 use Rattle.cog_client.specs.Steps.{Adopts}
 use Rattle.cog_client.specs.Take.{first_span}
 

@@ -1,6 +1,6 @@
 -- The head of an answer that comes in pieces, between two of them.
 use Rattle.std.specs.Prelude.{◌≡◌, ℕ, ◌<◌, ◌≤◌, List, ◌++◌, length, take, drop, Result, Ok, Err}
-use Rattle.http_parts.specs.declared.limits.TheConstants.{HEAD_LIMIT}
+use Rattle.http_fields.specs.declared.limits.TheConstants.{HEAD_LIMIT}
 use Rattle.http_range.specs.declared.reading.Why.{Why}
 use Rattle.http_range.specs.Announced.{Announced, announced, body_behind, FitsFile}
 use Rattle.http_range.specs.Laws.{HasNone}

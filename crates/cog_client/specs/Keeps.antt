@@ -1,8 +1,9 @@
 -- What each call of a client keeps of the file that it knows, beside what a caller sees of the call.
 use Rattle.std.specs.Prelude.{◌≡◌, ℕ, ◌⊎◌, false, List, Option, Some, None, IfSome, IsSome, slice_get, IfOk, Result}
 use Rattle.tiff_dir.specs.declared.query.Query.{Query}
-use Rattle.tiff_dir.specs.declared.span.Span.{Span}
-use Rattle.tiff_dir.specs.Needs.{Extent, IsEndOf}
+use Rattle.extents.specs.declared.span.Span.{Span}
+use Rattle.extents.specs.Extent.{Extent}
+use Rattle.tiff_dir.specs.Needs.{IsEndOf}
 use Rattle.tiff_dir.specs.Query.{needs}
 use Rattle.http_range.specs.declared.reading.Why.{Why}
 use Rattle.http_range.specs.Ask.{CanAsk}
@@ -14,13 +15,13 @@ use Rattle.range_cache.specs.Piece.{IsPieceOf}
 use Rattle.cog_client.specs.declared.delivered.Delivered.{Delivered}
 use Rattle.cog_client.specs.declared.report.Report.{Report}
 use Rattle.cog_client.specs.Case.{Revision, case_of}
-use Rattle.cog_client.specs.Feeding.{TakesNoBody, nothing_fed}
+use Rattle.cog_client.specs.AnswerPhase.{TakesNoBody, nothing_fed}
 use Rattle.cog_client.specs.Take.{IsIgnored, asked_or_first, base_of, first_span, stored_front, take}
 use Rattle.cog_client.specs.Report.{IsTrueReport}
-use Rattle.cog_client.specs.declared.asking.Asking.{Asking}
+use Rattle.cog_client.specs.declared.request_options.RequestOptions.{RequestOptions}
 use Rattle.cog_client.specs.Client.{ClientState, Knows, ClientAgrees, ahead_of, asked_of, blocks_of, feed_of, holding, host_of, how_of, name_of, query_of, report_of, revision_of, tag_of, to_come, unread}
 use Rattle.cog_reader.specs.Reader.{AreOfOneLevel}
-use Rattle.cached_reader.specs.Going.{AreSame, AreTouched, HasRoom, IsMissing}
+use Rattle.cog_reader.specs.Going.{AreSame, AreTouched, HasRoom, IsMissing}
 use Rattle.cog_client.specs.Calls.{Delivers, GoesOn, IsIdle, Opens, Requests, SameClient}
 
 -- What the query needs is to come, but for what is held, which stays.
@@ -80,7 +81,7 @@ Rests c = (o : Option Span) × Misses c o
 -- ---- how it asks
 
 -- It asks like this from here on; all else stays, and what it asked for is still what it lacks.
-pub record AsksLike (how : Asking) (old new : ClientState) : Type 0 where
+pub record AsksLike (how : RequestOptions) (old new : ClientState) : Type 0 where
   pub seen : new ≡ record old { how = how }
   pub knows : (f : List ℕ) → Knows f old → Knows f new
   pub come : (f : List ℕ) → to_come new f ≡ to_come old f

@@ -13,7 +13,7 @@ pub mod Progress
 pub mod Pieces
 pub mod Fed
 pub mod Head
-pub mod Feeding
-pub mod Arrival
+pub mod AnswerPhase
+pub mod PartialAnswer
 pub mod FedClient
 pub mod Early

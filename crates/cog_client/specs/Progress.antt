@@ -2,10 +2,10 @@
 use Rattle.std.specs.Prelude.{◌≡◌, ◌⊎◌, ℕ, zero, suc, ◌+◌, ◌-◌, ◌*◌, ◌<◌, ◌≤◌, true, false, min, not, if◌then◌else◌, List, [], ◌∷◌, length, take, sum_by, Option, Some, IfSome, IsSome, IsTrue, IsOkAnd, Result}
 use Rattle.std.specs.List.{filter, IsAmong}
 use Rattle.tiff_dir.specs.declared.query.Query.{Query}
-use Rattle.tiff_dir.specs.declared.span.Span.{Span}
-use Rattle.tiff_dir.specs.Needs.{Extent, ends_past}
+use Rattle.extents.specs.declared.span.Span.{Span}
+use Rattle.extents.specs.Extent.{Extent, ends_past}
 use Rattle.tiff_dir.specs.Query.{blocks_of_extent as touched, cost, needs}
-use Rattle.http_parts.specs.declared.limits.TheConstants.{HEAD_LIMIT}
+use Rattle.http_fields.specs.declared.limits.TheConstants.{HEAD_LIMIT}
 use Rattle.http_range.specs.Ask.{CanAsk, request_by}
 use Rattle.http_range.specs.declared.reading.Why.{Why}
 use Rattle.http_range.specs.Book.{Publication, Book, Catalogue, HasDistinctTags, In, IsCatalogue, published}
@@ -13,13 +13,13 @@ use Rattle.http_range.specs.Honest.{IsPieceOf}
 use Rattle.http_range.specs.Piece.{SeenPiece}
 use Rattle.http_range.specs.Reading.{ReadsAnswer}
 use Rattle.http_range.specs.Response.{Response, IsAnswer, is_current, text_of}
-use Rattle.tiff_dir.specs.declared.limits.TheConstants.{BLOCK_SIZE}
-use Rattle.tiff_dir.specs.Block.{first_block, blocks, end_of}
+use Rattle.extents.specs.declared.limits.TheConstants.{BLOCK_SIZE}
+use Rattle.extents.specs.Block.{first_block, blocks, end_of}
 use Rattle.range_cache.specs.Numbers.{has, missing}
 use Rattle.range_cache.specs.Cache.{numbers}
-use Rattle.cached_reader.specs.declared.ahead.TheConstants.{MAX_BLOCKS}
-use Rattle.cached_reader.specs.Going.{AreTouched}
-use Rattle.cog_client.specs.declared.asking.Asking.{Asking}
+use Rattle.cog_reader.specs.declared.ahead.TheConstants.{MAX_BLOCKS}
+use Rattle.cog_reader.specs.Going.{AreTouched}
+use Rattle.cog_client.specs.declared.request_options.RequestOptions.{RequestOptions}
 use Rattle.cog_client.specs.declared.delivered.Delivered.{Delivered}
 use Rattle.cog_client.specs.Case.{Revision}
 use Rattle.cog_client.specs.Take.{IsIgnored}
@@ -59,7 +59,7 @@ GoingOnLeavesNoMore = (old new : ClientState) (f : List ℕ) → GoesOnKeeping o
 
 -- However it asks, as much is left.
 abbrev pub AskingLeavesAsMuch : Type 0
-AskingLeavesAsMuch = (how : Asking) (old new : ClientState) (f : List ℕ) → AsksLike how old new → left f new ≡ left f old
+AskingLeavesAsMuch = (how : RequestOptions) (old new : ClientState) (f : List ℕ) → AsksLike how old new → left f new ≡ left f old
 
 -- ---- nothing left
 
@@ -175,7 +175,7 @@ ServedBringOn = (old new : ClientState) (p : Publication) (span : Span) (text : 
 
 -- A client is told how to ask, asks, may be told then to look otherwise ahead, and takes such an answer to what it asks for.
 pub record Exchanges (Answers : ClientState → Publication → Span → List ℕ → Type 0) (p : Publication) (old new : ClientState) : Type 0 where
-  pub how : Asking
+  pub how : RequestOptions
   pub told : ClientState
   pub tells : AsksLike how old told
   pub request : Option (List ℕ)

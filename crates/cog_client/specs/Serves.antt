@@ -1,6 +1,6 @@
 -- Transports over which a client gets its report.
 use Rattle.std.specs.Prelude.{◌≡◌, ℕ, List, Some}
-use Rattle.tiff_dir.specs.declared.span.Span.{Span}
+use Rattle.extents.specs.declared.span.Span.{Span}
 use Rattle.http_range.specs.Ask.{CanAsk}
 use Rattle.http_range.specs.Book.{Publication}
 use Rattle.cog_client.specs.Calls.{request_for}

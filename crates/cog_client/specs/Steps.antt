@@ -1,30 +1,30 @@
 -- The steps of a client inside its calls.
 use Rattle.std.specs.Prelude.{◌≡◌, ℕ, List, length, Option, Some, None, IfSome, IsSome, IsSomeAnd}
 use Rattle.tiff_dir.specs.declared.query.Query.{Query}
-use Rattle.tiff_dir.specs.declared.span.Span.{Span}
+use Rattle.extents.specs.declared.span.Span.{Span}
 use Rattle.http_range.specs.Piece.{SeenPiece}
 use Rattle.range_cache.specs.Piece.{IsPieceOf}
 use Rattle.cog_reader.specs.Outcome.{IsTrueOf}
 use Rattle.cog_reader.specs.Reader as reader
 use Rattle.cog_client.specs.declared.report.Report.{Report}
-use Rattle.cog_client.specs.declared.source.Source.{Source}
+use Rattle.cog_client.specs.declared.revision_reader.RevisionReader.{RevisionReader}
 use Rattle.cog_client.specs.Case.{Revision}
 use Rattle.cog_client.specs.Take.{asked_or_first, stored_count, emptied, stored_front, stored_of}
 use Rattle.cog_client.specs.Client.{ClientState, Knows, asked_of, blocks_of, feed_of, report_of, revision_of}
-use Rattle.cog_client.specs.Feeding.{TakesNoBody, nothing_fed}
-use Rattle.cached_reader.specs.Going.{AreSame}
+use Rattle.cog_client.specs.AnswerPhase.{TakesNoBody, nothing_fed}
+use Rattle.cog_reader.specs.Going.{AreSame}
 use Rattle.cog_client.specs.Calls.{SameClient, unless_reported}
 use Rattle.cog_client.specs.Keeps.{Rests, StaysOf}
 
 -- the report is the reader's answer to the query, under the tag of what is read
-abbrev pub IsReportBy : Query → Source → Report → Type 0
+abbrev pub IsReportBy : Query → RevisionReader → Report → Type 0
 IsReportBy q s r = (q ≡ r.query) × (r.tag ≡ s.tag) × (reader.outcome_of s.reader ≡ Some r.outcome)
 
 -- The reader's answer becomes the report, where there is one; else the reader is as it was.
-pub record Concludes (query : Query) (old : Source) (r : Option Report) (new : Source) : Type 0 where
+pub record Concludes (query : Query) (old : RevisionReader) (r : Option Report) (new : RevisionReader) : Type 0 where
   pub tag : new.tag ≡ old.tag
   pub complete : new.complete ≡ old.complete
-  pub length : reader.complete_of new.reader ≡ reader.complete_of old.reader
+  pub length : reader.file_length_of new.reader ≡ reader.file_length_of old.reader
   pub tiles : reader.tiles_of new.reader ≡ reader.tiles_of old.reader
   pub report : IfSome r (IsReportBy query old)
   pub unasked : IsSome r → reader.query_of new.reader ≡ None

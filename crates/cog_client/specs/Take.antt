@@ -1,7 +1,7 @@
 -- What an answer leaves of what a client holds, by how the answer is read.
 use Rattle.std.specs.Prelude.{ℕ, List, [], take as front, Option, Some, None, Result, Ok, Err, ⊤}
 use Rattle.std.proofs.Common.{arith}
-use Rattle.tiff_dir.specs.declared.span.Span.{Span}
+use Rattle.extents.specs.declared.span.Span.{Span}
 use Rattle.http_range.specs.declared.reading.Why.{Why}
 use Rattle.http_range.specs.Piece.{SeenPiece, number_of_why}
 use Rattle.range_cache.specs.Cache.{Block, Blocks, stored, stores}

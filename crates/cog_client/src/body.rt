@@ -1,16 +1,15 @@
 //! The body of an answer that comes in pieces: its blocks are stored as they become whole.
 ghost use Rattle.std.specs.Prelude.{◌≡◌, ◌+◌, ◌-◌, ◌*◌, ◌<◌, ◌≤◌, ◌++◌, ℕ, List, [], IfOk, OnOk, OnErr, length, drop, take};
-ghost use Rattle.tiff_dir.specs.declared.limits.TheConstants.{BLOCK_SIZE};
+ghost use Rattle.extents.specs.declared.limits.TheConstants.{BLOCK_SIZE};
 ghost use Rattle.http_range.specs.Announced.{announced, FitsFile};
 ghost use Rattle.range_cache.specs.Cache.{stores, Blocks};
 ghost use Rattle.range_cache.specs.Piece.{whole_blocks};
 ghost use Rattle.cog_client.specs.Client.{IsFew};
 ghost use Rattle.cog_client.specs.Body.{with_stored, Extends, IsBody, IsSeam, IsSoundBody, KeepsTail, PartsAreKept, Stops};
 
+use extents::{BLOCK_SIZE, Memory};
 use http_range::{Head, Span};
-use range_cache::{Cache, parts_bring_blocks, pieces_bring_blocks, stores_are_counted};
-use tiff_dir::Memory;
-use tiff_dir::limits::BLOCK_SIZE;
+use range_cache::{Cache, law_parts_bring_blocks, law_pieces_bring_blocks, law_stores_are_counted};
 
 /// The bytes of a room for a block that is cut.
 pub const PART_ROOM: usize = BLOCK_SIZE as usize;
@@ -48,8 +47,8 @@ fn store(
         (k : ℕ) × (k < length new) × (cache.new ≡ with_stored (take k new) cache.old)) }
     ensures capacity { cache.new.capacity ≡ cache.old.capacity }
 {
-    stores_are_counted();
-    pieces_bring_blocks();
+    law_stores_are_counted();
+    law_pieces_bring_blocks();
     cache.put(complete, first, bytes, span)
 }
 
@@ -63,7 +62,7 @@ pub fn copy(room: &mut [u8], at: usize, bytes: &[u8])
 }
 
 /// What is kept of a body is the part of the definition.
-pub fn parts_are_kept()
+pub fn law_parts_are_kept()
     ensures { PartsAreKept }
 {}
 
@@ -76,7 +75,7 @@ impl Body {
         ensures span { result.span ≡ span }
         ensures begins { (start : Blocks) (part : List ℕ) → IsBody (announced head.now) start [] result part start }
     {
-        parts_bring_blocks();
+        law_parts_bring_blocks();
         Body {
             next: head.first,
             complete: head.complete,
@@ -100,14 +99,15 @@ impl Body {
         ensures sound { IsSoundBody self.new }
         ensures span { self.new.span ≡ self.old.span }
         ensures room { length part.new ≡ BLOCK_SIZE }
-        ensures ok { IfOk result (λ rest. (m : ℕ) × (rest.now ≡ drop m bytes.now) × (length rest.now ≤ self.new.left) × IsSeam self.new.next rest.now
+        ensures ok { IfOk result (λ rest. (m : ℕ) × (rest.now ≡ drop m bytes.now) × (length rest.now ≤ self.new.left)
+            × IsSeam self.new.next rest.now
             × Extends self.old part.old cache.old (take m bytes.now) self.new part.new cache.new) }
         ensures err { OnErr result (Stops self.old part.old cache.old bytes.now cache.new) }
         ensures capacity { cache.new.capacity ≡ cache.old.capacity }
     {
-        parts_bring_blocks();
-        stores_are_counted();
-        pieces_bring_blocks();
+        law_parts_bring_blocks();
+        law_stores_are_counted();
+        law_pieces_bring_blocks();
         let begun = self.next % BLOCK_SIZE;
         if begun == 0 {
             return Ok(bytes);
@@ -150,9 +150,9 @@ impl Body {
         ensures err { OnErr result (Stops self.old part.old cache.old bytes.now cache.new) }
         ensures capacity { cache.new.capacity ≡ cache.old.capacity }
     {
-        parts_bring_blocks();
-        stores_are_counted();
-        pieces_bring_blocks();
+        law_parts_bring_blocks();
+        law_stores_are_counted();
+        law_pieces_bring_blocks();
         if bytes.is_empty() {
             return Ok(());
         }

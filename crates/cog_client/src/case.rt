@@ -8,7 +8,7 @@ ghost use Rattle.cog_client.specs.Client.{revision_in};
 ghost use Rattle.cog_client.specs.Fed.{case_of_head, case_of_revision, told_at_end};
 
 use crate::delivered::{Delivered, Ignored};
-use crate::source::Source;
+use crate::revision_reader::RevisionReader;
 use http_range::{Head, Span};
 
 /// What a piece of a file is to a client.
@@ -44,7 +44,7 @@ fn is_beside_at(span: Span, first: u64, came: u64) -> bool
 }
 
 /// The case that the head of an answer tells where there is a revision and something is asked.
-fn case_of_revision(source: &Source, head: &Head) -> Case
+fn case_of_revision(source: &RevisionReader, head: &Head) -> Case
     ensures { result ≡ case_of_revision (revision_in source.now) (announced head.now) }
 {
     if source.tag != head.tag {
@@ -57,7 +57,7 @@ fn case_of_revision(source: &Source, head: &Head) -> Case
 }
 
 /// The case that the head of an answer tells. Whether the body is beside what is asked for is known at its end.
-pub fn case_of_head(source: &Option<Source>, asked: Option<Span>, head: &Head) -> Case
+pub fn case_of_head(source: &Option<RevisionReader>, asked: Option<Span>, head: &Head) -> Case
     ensures { result ≡ case_of_head (option_map revision_in source.now) asked (announced head.now) }
 {
     if asked.is_none() {

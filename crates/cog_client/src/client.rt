@@ -5,23 +5,22 @@ ghost use Rattle.cog_client.specs.Take.{first_span};
 mod early;
 mod feeds;
 
-use crate::arrival::Arrival;
-use crate::asking::Asking;
 use crate::delivered::{Current, Unknown};
 use crate::error::ClientError;
+use crate::partial_answer::PartialAnswer;
 use crate::report::Report;
-use crate::source::Source;
-use cached_reader::fill;
-use cog_reader::{end_is_wanted, nothing_comes};
+use crate::request_options::RequestOptions;
+use crate::revision_reader::RevisionReader;
+use cog_reader::{fill, law_end_is_wanted, law_nothing_comes};
+use extents::{BLOCK_SIZE, Memory};
 use http_range::{
-    CheckReading, Head, Span, Tag, fronts_are_read, is_host, is_name, read_check, write_check,
+    CheckReading, Head, Span, Tag, is_host, is_name, law_fronts_are_read, read_check, write_check,
     write_open_request, write_request,
 };
 use range_cache::{Cache, CacheError};
 use std::alloc::Global;
 use std::marker::Model;
-use tiff_dir::limits::BLOCK_SIZE;
-use tiff_dir::{Level, Memory, Query};
+use tiff_dir::{Level, Query};
 
 /// What a client asks for that has no revision: the first 65,536 bytes.
 fn first_span() -> Span
@@ -38,16 +37,16 @@ fn first_span() -> Span
 /// bytes in a bounded cache, and of packed tiles what they stand for.
 pub struct Client {
     alloc: Global,
-    how: Asking,
+    how: RequestOptions,
     host: Vec<u8>,
     name: Vec<u8>,
     query: Option<Query>,
     asked: Option<Span>,
-    source: Option<Source>,
+    source: Option<RevisionReader>,
     cache: Cache,
     buffer: Vec<u8>,
     report: Option<Report>,
-    arrival: Arrival,
+    partial_answer: PartialAnswer,
 }
 
 // Written out, it is one call wherever a client is let go; derived, each such place would be proved field by field.
@@ -64,7 +63,7 @@ impl Drop for Client {
             cache: _,
             buffer: _,
             report: _,
-            arrival: _,
+            partial_answer: _,
         } = self;
     }
 }
@@ -83,7 +82,7 @@ impl Model for Client {
       source = c.source;
       cache = c.cache;
       report = c.report;
-      feed = c.arrival;
+      feed = c.partial_answer;
     } };
 
     ghost invariant = { λ c. IsClient (record {
@@ -95,7 +94,7 @@ impl Model for Client {
       source = c.source;
       cache = c.cache;
       report = c.report;
-      feed = c.arrival;
+      feed = c.partial_answer;
     }) };
 }
 
@@ -104,8 +103,8 @@ impl Client {
     ghost use Rattle.std.specs.Prelude.{◌≡◌, ◌*◌, ◌≤◌, ℕ, List, None, Some, IfErr, IfOk, IfSome, IsSome, IsTrue, MatchOption, OnErr, OnOk, option_copied};
     ghost use Rattle.std.specs.Option.{option_map};
     ghost use Rattle.tiff_dir.specs.Described.{AreLevels};
-    ghost use Rattle.tiff_dir.specs.declared.limits.TheConstants.{BLOCK_SIZE};
-    ghost use Rattle.tile_mosaic.specs.Unpacked.{size_of_tiles};
+    ghost use Rattle.extents.specs.declared.limits.TheConstants.{BLOCK_SIZE};
+    ghost use Rattle.tile_plan.specs.TileCache.{size_of_tiles};
     ghost use Rattle.http_range.specs.Ask.{CanAsk, CanCheck};
     ghost use Rattle.http_range.specs.Announced.{announced};
     ghost use Rattle.http_range.specs.Tag.{is_kept_tag};
@@ -145,10 +144,10 @@ impl Client {
             Err(CacheError::Blocks) => return Err(ClientError::Blocks),
             Err(CacheError::Memory) => return Err(ClientError::Memory),
         };
-        let arrival = Arrival::new(alloc)?;
+        let partial_answer = PartialAnswer::new(alloc)?;
         Ok(Client {
             alloc,
-            how: Asking {
+            how: RequestOptions {
                 closes: true,
                 ahead: 0,
             },
@@ -160,7 +159,7 @@ impl Client {
             cache,
             buffer: Vec::new(alloc),
             report: None,
-            arrival,
+            partial_answer,
         })
     }
 
@@ -169,8 +168,8 @@ impl Client {
     pub fn open(&mut self, query: Query)
         ensures { OpensKeeping query self.old self.new }
     {
-        end_is_wanted();
-        self.arrival.clear();
+        law_end_is_wanted();
+        self.partial_answer.clear();
         self.query = Some(query);
         self.asked = None;
         self.report = None;
@@ -184,15 +183,16 @@ impl Client {
     pub fn forget(&mut self)
         ensures { Forgets self.old self.new }
     {
-        self.arrival.clear();
+        self.partial_answer.clear();
         self.asked = None;
         self.source = None;
         self.report = None;
         self.cache.clear();
     }
 
-    /// Writes requests, but not the check, without `Connection: close` from here on, so that a connection may be kept from one to the next (RFC 9112,
-    /// section 9.3). Whoever sends them has to know where an answer ends. It takes no memory.
+    /// Writes requests, but not the check, without `Connection: close` from here on, so that a connection may be kept
+    /// from one to the next (RFC 9112, section 9.3). Whoever sends them has to know where an answer ends. It takes no
+    /// memory.
     pub fn keep_open(&mut self)
         ensures { KeepsOpen self.old self.new }
     {
@@ -278,7 +278,7 @@ impl Client {
         // It comes only where something may be asked.
         ensures asks { OnErr result (IsSome (query_of self.old) × (report_of self.old ≡ None)) }
     {
-        self.arrival.clear();
+        self.partial_answer.clear();
         self.asked = None;
         if self.query.is_none() || self.report.is_some() {
             return Ok(None);
@@ -292,7 +292,7 @@ impl Client {
         Ok(Some(text))
     }
 
-    /// Goes on, and says what is missing then: of a file that nothing is known of, its first bytes.
+    /// Returns the byte range to ask for next: the file's first bytes while no revision is known, else what `go_on` lacks.
     fn missing(&mut self) -> Result<Option<Span>, Memory>
         requires { report_of self.old ≡ None }
         ensures goes { GoesOnKeeping self.old self.new }
@@ -322,7 +322,8 @@ impl Client {
         }
     }
 
-    /// Goes on as far as the blocks reach, and says what is missing then. Where nothing is, the report stands.
+    /// Gives the reader what the blocks have, and returns the byte range that it still lacks. Where it lacks none, its report
+    /// stands.
     fn go_on(&mut self) -> Result<Option<Span>, Memory>
         requires report { report_of self.old ≡ None }
         requires reads { IsSome (revision_of self.old) }
@@ -360,7 +361,7 @@ impl Client {
         ensures reports { IsSome (query_of self.old)
             → IfSome self.old.source (λ s. IsSome (outcome_of s.reader) → IsSome (report_of self.new)) }
     {
-        nothing_comes();
+        law_nothing_comes();
         let Some(query) = self.query else {
             return;
         };
@@ -386,7 +387,7 @@ impl Client {
         self.asked = asked;
         self.cache.clear();
         let room = self.cache.capacity() as usize * BLOCK_SIZE as usize;
-        self.source = Some(Source::new(self.alloc, head, self.query, room));
+        self.source = Some(RevisionReader::new(self.alloc, head, self.query, room));
     }
 
     /// The check whether the file still has the revision's tag: a HEAD request with If-None-Match (RFC 9110, section 13.1.2).
@@ -410,7 +411,7 @@ impl Client {
         ensures current { IsCurrent (tag_of self.now) answer.now result }
         ensures same { result ≡ Same → IsStillThere (tag_of self.now) answer.now }
     {
-        fronts_are_read();
+        law_fronts_are_read();
         let Some(source) = &self.source else {
             return Current::Unknown(Unknown::NoRevision);
         };

@@ -68,8 +68,8 @@ impl FetchError {
     }
 }
 
-impl From<tiff_dir::Memory> for FetchError {
-    fn from(_refused: tiff_dir::Memory) -> FetchError {
+impl From<extents::Memory> for FetchError {
+    fn from(_refused: extents::Memory) -> FetchError {
         FetchError::Memory
     }
 }

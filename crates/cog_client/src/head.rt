@@ -1,13 +1,13 @@
 //! The head of an answer that comes in pieces: its bytes are kept until it is whole.
 ghost use Rattle.std.specs.Prelude.{◌<◌, ◌≡◌, ◌≢◌, Err, false, length, take, true};
-ghost use Rattle.http_parts.specs.declared.limits.TheConstants.{HEAD_LIMIT};
+ghost use Rattle.http_fields.specs.declared.limits.TheConstants.{HEAD_LIMIT};
 ghost use Rattle.http_range.specs.declared.reading.Why.TheVariants.{Cut, Head as AHead};
 ghost use Rattle.http_range.specs.Laws.{HasNone};
 ghost use Rattle.cog_client.specs.Head.{HasNoHead, Looks};
 
 use crate::body::copy;
-use http_parts::limits::HEAD_LIMIT;
-use http_range::{Head, HeadReading, Why, heads_grow, read_head};
+use http_fields::limits::HEAD_LIMIT;
+use http_range::{Head, HeadReading, Why, law_heads_grow, read_head};
 
 /// The most bytes of a head.
 pub const HEAD_ROOM: usize = HEAD_LIMIT;
@@ -43,7 +43,7 @@ pub fn read_on(room: &mut [u8], len: usize, bytes: &[u8]) -> Look
     ensures room { length room.new ≡ HEAD_LIMIT }
     ensures looks { Looks (take len room.old) bytes.now room.new result }
 {
-    heads_grow();
+    law_heads_grow();
     let count = bytes.len().min(HEAD_ROOM - len);
     copy(room, len, &bytes[..count]);
     let have = len + count;

@@ -8,7 +8,8 @@ use crate::transport::Lost;
 
 /// Carries requests to a server, and brings its answers in pieces, whole or cut, or none.
 pub trait Pieces {
-    /// It speaks for this book: each piece of a file that is read of what it brings is of a publication of it, by its tag, length and bytes.
+    /// It speaks for this book: each piece of a file that is read of what it brings is of a publication of it, by its
+    /// tag, length and bytes.
     ghost speaks_for: { Self → Book → Type 0 };
 
     /// This text may come of the answer to this request. One that leaves this out says nothing of it.

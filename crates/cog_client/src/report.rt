@@ -5,10 +5,11 @@ ghost use Rattle.cog_reader.specs.declared.outcome.Outcome.TheVariants as outcom
 ghost use Rattle.cog_client.specs.Report.{items_in, said_of};
 
 use cog_reader::{Info, Outcome, Window};
+use extents::Memory;
 use geokeys::{Geo, Key, KeyValue};
 use http_range::Tag;
 use std::alloc::Global;
-use tiff_dir::{Memory, Query};
+use tiff_dir::Query;
 
 /// The answer to a query of a file, and the tag under which the file was published.
 #[derive(Debug, Drop)]

@@ -12,7 +12,8 @@ pub struct Lost;
 
 /// Carries requests to a server, and brings its answers, whole or cut, or none.
 pub trait Transport {
-    /// It speaks for this book: each piece of a file that is read of what it brings is of a publication of it, by its tag, length and bytes.
+    /// It speaks for this book: each piece of a file that is read of what it brings is of a publication of it, by its
+    /// tag, length and bytes.
     ghost speaks_for: { Self → Book → Type 0 };
 
     /// This may come of this request: Some of a text of its answer, None where that is lost. One that leaves this out says nothing of it.

@@ -1,7 +1,7 @@
 -- How much is still to come of an answer on a connection that may go on behind it (RFC 9112, sections 6.3 and 9.3).
 use Rattle.std.specs.Prelude.{◌≡◌, ℕ, ◌+◌, ◌-◌, ◌&&◌, ◌⊎◌, nat_le, nat_lt, Bool, true, false, if◌then◌else◌, List, length, Result, Ok, Err}
 use Rattle.http_range.specs.declared.reading.Why.{Why}
-use Rattle.http_parts.specs.declared.limits.TheConstants.{HEAD_LIMIT}
+use Rattle.http_fields.specs.declared.limits.TheConstants.{HEAD_LIMIT}
 use Rattle.http_range.specs.declared.reading.Why.TheVariants.{Cut, Head as AHead}
 use Rattle.http_range.specs.Announced.{Announced}
 use Rattle.http_range.specs.Honest.{IsFront}

@@ -4,8 +4,8 @@ ghost use Rattle.http_range.specs.Announced.{head_reading_seen};
 ghost use Rattle.cog_fetch.specs.declared.answer_end.Lacks.TheVariants.{Body, End, Head};
 ghost use Rattle.cog_fetch.specs.AnswerEnd.{closes, is_some_of, lacks_behind, lacks_by, lacks_of, has_begun, kept_of, may_change, Came, IsLast, MayGoOn};
 
-use http_parts::limits::HEAD_LIMIT;
-use http_range::{HeadReading, Why, ends_connection, heads_grow, read_head};
+use http_fields::limits::HEAD_LIMIT;
+use http_range::{HeadReading, Why, ends_connection, law_heads_grow, read_head};
 use std::alloc::{AllocError, Global};
 
 /// What is still to come of an answer.
@@ -69,7 +69,7 @@ impl AnswerEnd {
         ensures came { Came result [] }
         ensures none { kept_of result ≡ [] }
     {
-        heads_grow();
+        law_heads_grow();
         AnswerEnd {
             head: Vec::new(alloc),
             lacks: lacks_by(&read_head(&[]), 0),
@@ -83,7 +83,7 @@ impl AnswerEnd {
         ensures came { Came self.new [] }
         ensures none { kept_of self.new ≡ [] }
     {
-        heads_grow();
+        law_heads_grow();
         self.head.clear();
         self.lacks = lacks_by(&read_head(&[]), 0);
         self.closes = false;
@@ -121,7 +121,7 @@ impl AnswerEnd {
         ensures dropped { lacks_of self.old ≡ Head → ¬ (lacks_of self.new ≡ Head) → kept_of self.new ≡ [] }
         ensures stays { ¬ (lacks_of self.old ≡ Head) → kept_of self.new ≡ kept_of self.old }
     {
-        heads_grow();
+        law_heads_grow();
         self.begun |= !bytes.is_empty();
         match self.lacks {
             Lacks::Head => self.look(bytes),
@@ -182,7 +182,7 @@ impl AnswerEnd {
         ensures ends { result ≡ false → (bytes : List ℕ) → Came self.now bytes → IsLast bytes }
         ensures lost { lacks_of self.now ≡ End → result ≡ false }
     {
-        heads_grow();
+        law_heads_grow();
         let Lacks::Body(left) = self.lacks else {
             return false;
         };

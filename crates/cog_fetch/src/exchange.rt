@@ -9,7 +9,8 @@ use cog_client::{Client, FetchError, Lost, Memory, Pieces, Transport};
 
 /// How a request is sent to a source, and what comes of its answer taken.
 pub(crate) trait Exchange<S> {
-    /// It speaks for this book: each piece of a file that is read of what it brings is of a publication of it, by its tag, length and bytes.
+    /// It speaks for this book: each piece of a file that is read of what it brings is of a publication of it, by its
+    /// tag, length and bytes.
     ghost speaks_for: { S → Book → Type 0 };
 
     /// This may come of this request: Some of a text of its answer, None where that is lost. The Bool says whether a loss is told by then.

@@ -15,8 +15,8 @@ ghost use Rattle.cog_client.specs.Transport.{AnswersOn, FetchesAll, StopsFetchin
 ghost use Rattle.cog_fetch.specs.Takes.{AllOf, ExchangesOnce, TakenOf};
 
 use crate::exchange::{Exchange, InPieces, Whole};
-use cog_client::{Client, FetchError, Pieces, Report, Transport, whole_answers_report};
-use http_range::fronts_are_read;
+use cog_client::{Client, FetchError, Pieces, Report, Transport, law_whole_answers_report};
+use http_range::law_fronts_are_read;
 
 /// One exchange, if the client has a request. Says whether it had one. At most so many follow.
 fn exchange_once<S, E: Exchange<S>>(
@@ -54,7 +54,8 @@ fn exchange_up_to<S, E: Exchange<S>>(
 ) -> Result<(), FetchError>
     requires { E.count source.old + tries < 2 ^ 64 }
     ensures keeps { KeepsReading (E.speaks_for source.old) (E.speaks_for source.new) client.old client.new }
-    ensures fetches { OnOk result (FetchesAll (E.came source.old (E.has_lost source.new)) (E.count source.old) (E.count source.new) client.old client.new) }
+    ensures fetches { OnOk result (FetchesAll (E.came source.old (E.has_lost source.new)) (E.count source.old)
+        (E.count source.new) client.old client.new) }
     ensures stops { OnErr result (StopsFetching (E.came source.old true) client.old client.new) }
     ensures told { IsTrue (E.has_lost source.old) → IsTrue (E.has_lost source.new) }
     ensures goes_on { (lost : Bool) → AnswersOn (E.came source.old lost) (E.came source.new lost) }
@@ -82,14 +83,16 @@ pub fn fetch<'c, T: Transport>(
 ) -> Result<Option<&'c Report>, FetchError>
     requires { T.count transport.old + tries < 2 ^ 64 }
 
-    // A client that reads a book for which the transport speaks reads it still, whatever was lost or cut, and
-    // after want of memory too. What is given is its standing report. It was asked for its request, and what came of the answer was taken, as
-    // often as the transport counts, and nothing else was done to it; none was lost unless the transport tells so. Want of memory came in the
-    // last of some such exchanges, of whose number and losses nothing is said.
+    // A client that reads a book for which the transport speaks reads it still, whatever was lost or cut, and after
+    // want of memory too. What is given is its standing report. It was asked for its request, and what came of the
+    // answer was taken, as often as the transport counts, and nothing else was done to it; none was lost unless the
+    // transport tells so. Want of memory came in the last of some such exchanges, of whose number and losses nothing is
+    // said.
     ensures* client { sem 𝓛 (Rests the_row client.entry (λ c.
         KeepsReading (T.speaks_for transport.old) (T.speaks_for transport.new) client.old c
         × IfOk result (λ report. Stands c (option_copied report)
-        × FetchesAll (UnlessTold (T.has_lost transport.new) (T.answers transport.old)) (T.count transport.old) (T.count transport.new) client.old c)
+        × FetchesAll (UnlessTold (T.has_lost transport.new)
+        (T.answers transport.old)) (T.count transport.old) (T.count transport.new) client.old c)
         × OnErr result (StopsFetching (T.answers transport.old) client.old c))) }
 
     // A report is true of one publication of that book: of the one whose tag it tells.
@@ -100,10 +103,12 @@ pub fn fetch<'c, T: Transport>(
     ensures none { IfOk result (λ report. report ≡ None
         → IsInVain (query_of client.old) tries (T.count transport.old) (T.count transport.new)) }
 
-    // Where the transport lost nothing, and brings answers of one publication alone that have all that is asked for, or the whole file, there
-    // is one behind an opening by as many exchanges as the query costs, and one more.
-    ensures reports { (book : Book) (p : Publication) (q : Query) (before : ClientState) → HasDistinctTags book → In p book → p.name ≡ name_of before
-        → ClientAgrees before book → OpensKeeping q before client.old → Serves (T.answers transport.old) p → T.has_lost transport.new ≡ false
+    // Where the transport lost nothing, and brings answers of one publication alone that have all that is asked for, or
+    // the whole file, there is one behind an opening by as many exchanges as the query costs, and one more.
+    ensures reports { (book : Book) (p : Publication) (q : Query) (before : ClientState) → HasDistinctTags book → In p book
+        → p.name ≡ name_of before
+        → ClientAgrees before book → OpensKeeping q before client.old → Serves (T.answers transport.old) p
+        → T.has_lost transport.new ≡ false
         → cost p.file q + 1 ≤ tries → IfOk result (λ report. IsSome (option_copied report)) }
 
     // What was lost is told from then on, and what may come later might have come now.
@@ -116,8 +121,8 @@ pub fn fetch<'c, T: Transport>(
     ensures stands { IsSome (report_of client.old)
         → IfOk result (λ report. option_copied report ≡ report_of client.old) }
 {
-    whole_answers_report();
-    fronts_are_read();
+    law_whole_answers_report();
+    law_fronts_are_read();
     exchange_up_to::<T, Whole>(client, transport, tries)?;
     Ok(client.report())
 }
@@ -133,15 +138,16 @@ pub fn fetch_pieces<'c, P: Pieces>(
 ) -> Result<Option<&'c Report>, FetchError>
     requires { P.count pieces.old + tries < 2 ^ 64 }
 
-    // A client that reads a book for which the source speaks reads it still, whatever was lost or cut, and after want of
-    // memory too. What is given is its standing report. It was asked for its request, and what came of the answer was taken, as often as the
-    // source counts, and nothing else was done to it; where the source speaks for any book all of each answer up to `ANSWER_LIMIT` bytes, unless
-    // it lost one, or the rest of one, and tells so. Want of memory came in the last of some such exchanges, of whose number and losses nothing
-    // is said.
+    // A client that reads a book for which the source speaks reads it still, whatever was lost or cut, and after want
+    // of memory too. What is given is its standing report. It was asked for its request, and what came of the answer
+    // was taken, as often as the source counts, and nothing else was done to it; where the source speaks for any book
+    // all of each answer up to `ANSWER_LIMIT` bytes, unless it lost one, or the rest of one, and tells so. Want of
+    // memory came in the last of some such exchanges, of whose number and losses nothing is said.
     ensures* client { sem 𝓛 (Rests the_row client.entry (λ c.
         KeepsReading (P.speaks_for pieces.old) (P.speaks_for pieces.new) client.old c
         × IfOk result (λ report. Stands c (option_copied report)
-        × FetchesAll (TakenOf (P.speaks_for pieces.old) (P.answers pieces.old) (P.has_lost pieces.new)) (P.count pieces.old) (P.count pieces.new) client.old c)
+        × FetchesAll (TakenOf (P.speaks_for pieces.old) (P.answers pieces.old)
+        (P.has_lost pieces.new)) (P.count pieces.old) (P.count pieces.new) client.old c)
         × OnErr result (StopsFetching (TakenOf (P.speaks_for pieces.old) (P.answers pieces.old) true) client.old c))) }
 
     // A report is true of one publication of that book: of the one whose tag it tells.
@@ -154,8 +160,10 @@ pub fn fetch_pieces<'c, P: Pieces>(
 
     // Where the source lost nothing, and brings answers of one publication alone that have all that is asked for, or the whole file, in so
     // many bytes as are taken, there is one behind an opening by as many exchanges as the query costs, and one more.
-    ensures reports { (book : Book) (p : Publication) (q : Query) (before : ClientState) → HasDistinctTags book → In p book → p.name ≡ name_of before
-        → ClientAgrees before book → P.speaks_for pieces.old book → OpensKeeping q before client.old → Serves (AllOf (P.answers pieces.old)) p
+    ensures reports { (book : Book) (p : Publication) (q : Query) (before : ClientState) → HasDistinctTags book → In p book
+        → p.name ≡ name_of before
+        → ClientAgrees before book → P.speaks_for pieces.old book → OpensKeeping q before client.old
+        → Serves (AllOf (P.answers pieces.old)) p
         → P.has_lost pieces.new ≡ false → cost p.file q + 1 ≤ tries → IfOk result (λ report. IsSome (option_copied report)) }
 
     // What was lost is told from then on, and what is taken later might have been taken now.
@@ -169,14 +177,15 @@ pub fn fetch_pieces<'c, P: Pieces>(
     ensures stands { IsSome (report_of client.old)
         → IfOk result (λ report. option_copied report ≡ report_of client.old) }
 {
-    whole_answers_report();
-    fronts_are_read();
+    law_whole_answers_report();
+    law_fronts_are_read();
     exchange_up_to::<P, InPieces>(client, pieces, tries)?;
     Ok(client.report())
 }
 
-/// One exchange of `fetch_pieces`, if the client has a request, whose answer is taken as there. Says whether it had one. At most `later` follow: the source may be told
-/// of as many requests, which it may send early. `Memory` is the only error, and the client can go on from there.
+/// One exchange of `fetch_pieces`, if the client has a request, whose answer is taken as there. Says whether it had
+/// one. At most `later` follow: the source may be told of as many requests, which it may send early. `Memory` is the
+/// only error, and the client can go on from there.
 pub fn exchange_pieces<P: Pieces>(
     client: &mut Client,
     pieces: &mut P,
@@ -184,7 +193,8 @@ pub fn exchange_pieces<P: Pieces>(
 ) -> Result<bool, FetchError>
     requires { P.count pieces.old + 1 < 2 ^ 64 }
     ensures keeps { KeepsReading (P.speaks_for pieces.old) (P.speaks_for pieces.new) client.old client.new }
-    ensures fetches { IfOk result (λ asked. ExchangesOnce (TakenOf (P.speaks_for pieces.old) (P.answers pieces.old) (P.has_lost pieces.new)) asked client.old client.new) }
+    ensures fetches { IfOk result (λ asked. ExchangesOnce (TakenOf (P.speaks_for pieces.old) (P.answers pieces.old)
+        (P.has_lost pieces.new)) asked client.old client.new) }
     ensures stops { OnErr result (StopsOnce (TakenOf (P.speaks_for pieces.old) (P.answers pieces.old) true) client.old client.new) }
 
     // What was lost is told from then on, and what is taken later might have been taken now.

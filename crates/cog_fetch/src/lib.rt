@@ -10,5 +10,5 @@ mod taking;
 
 pub use answer_end::{AnswerEnd, Lacks};
 pub use fetching::{exchange_pieces, fetch, fetch_pieces};
-pub use laws::answer_limit_is;
+pub use laws::law_answer_limit_is;
 pub use taking::{ANSWER_LIMIT, PIECE_ROOM};

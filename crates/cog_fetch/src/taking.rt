@@ -6,9 +6,8 @@ ghost use Rattle.cog_client.specs.Transport.{AnswersOn, OrLost, SpeaksOn};
 ghost use Rattle.cog_fetch.specs.Takes.{IsNextOf, IsTakenOf, Stops, TakesAll, TakesAnswer, TakesPiece};
 
 use cog_client::{Client, Lost, MAX_BLOCKS, Pieces};
-use http_parts::limits::HEAD_LIMIT;
-use tiff_dir::Memory;
-use tiff_dir::limits::BLOCK_SIZE;
+use extents::{BLOCK_SIZE, Memory};
+use http_fields::limits::HEAD_LIMIT;
 
 /// The most bytes of an answer that are taken, 1,069,056: those of a head and of the blocks of one request.
 pub const ANSWER_LIMIT: usize = HEAD_LIMIT + MAX_BLOCKS as usize * BLOCK_SIZE as usize;
@@ -24,7 +23,8 @@ fn take_piece<P: Pieces>(
 ) -> Result<usize, Memory>
     requires { 0 < length room.old }
     ensures few { IfOk result (λ n. n ≤ length room.old) }
-    ensures ok { IfOk result (λ n. TakesPiece (P.speaks_for pieces.old) (P.rest pieces.old) n (P.has_lost pieces.new) (P.rest pieces.new) client.old client.new) }
+    ensures ok { IfOk result (λ n. TakesPiece (P.speaks_for pieces.old) (P.rest pieces.old) n (P.has_lost pieces.new)
+        (P.rest pieces.new) client.old client.new) }
     ensures err { OnErr result (Stops (P.speaks_for pieces.old) (P.rest pieces.old) client.old client.new) }
     ensures told { IsTrue (P.has_lost pieces.old) → IsTrue (P.has_lost pieces.new) }
     ensures goes_on { AnswersOn (OrLost (P.answers pieces.old)) (OrLost (P.answers pieces.new)) }

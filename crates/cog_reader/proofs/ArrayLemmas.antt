@@ -14,7 +14,8 @@ use Rattle.tiff_dir.specs.declared.level.Compression.{Compression}
 use Rattle.tiff_dir.specs.File.{◌>>=◌, field, value, size_of}
 use Rattle.tiff_dir.specs.Level.{Grid, Layout, level_directory, level_layout, layout_at, depth_at, grid_at, compression_of, place_of}
 use Rattle.tiff_dir.specs.Profile.{tiles_along}
-use Rattle.tiff_dir.specs.Needs.{ends_past, field_range, extent_of_place}
+use Rattle.extents.specs.Extent.{ends_past}
+use Rattle.tiff_dir.specs.Needs.{field_range, extent_of_place}
 use Rattle.tiff_dir.specs.Walk.{IsArrayOf}
 use Rattle.tiff_dir.specs.Query.{array_range}
 

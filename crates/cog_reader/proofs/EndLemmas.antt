@@ -8,16 +8,17 @@ use Rattle.std.proofs.lemmas.Option.{none-some}
 use Rattle.tiff_dir.specs.declared.query.Query.{Query}
 use Rattle.tiff_dir.specs.File.{◌>>=◌}
 use Rattle.tiff_dir.specs.WalkState.{WalkState}
-use Rattle.tiff_dir.specs.Needs.{Extent, needs_of_directories, IsEndOf}
+use Rattle.extents.specs.Extent.{Extent}
+use Rattle.tiff_dir.specs.Needs.{needs_of_directories, IsEndOf}
 use Rattle.tiff_dir.specs.Query as queries
 use Rattle.tiff_dir.specs.Query.{needs, needs_of_query, rectangle}
 use Rattle.tiff_dir.specs.Walk as walk
-use Rattle.cog_reader.specs.declared.kept.Kept.{Kept}
-use Rattle.cog_reader.specs.declared.kept.Kept.TheVariants as kept
+use Rattle.cog_reader.specs.declared.kept_arrays.KeptArrays.{KeptArrays}
+use Rattle.cog_reader.specs.declared.kept_arrays.KeptArrays.TheVariants as kept
 use Rattle.cog_reader.specs.declared.state.PendingQuery.{PendingQuery}
 use Rattle.cog_reader.specs.declared.state.State.{State}
-use Rattle.cog_reader.specs.declared.state.State.TheVariants.{Directories, Arrays as Reads, Tiles, Fields as Geo, Answered}
-use Rattle.cog_reader.specs.Kept.{arrays_held, IsKeptOf}
+use Rattle.cog_reader.specs.declared.state.State.TheVariants.{Directories, Arrays as Reads, Tiles, GeoFields as Geo, Answered}
+use Rattle.cog_reader.specs.KeptArrays.{arrays_held, IsKeptOf}
 use Rattle.cog_reader.specs.Reader.{come_by, outcome_in, outcome_of, own_given, query_of, to_come, ReaderAgrees, ReaderState}
 
 end_of_own : (xs ys : List Extent) (n : ℕ) → IsEndOf (drop n ys) (xs ++ ys)
@@ -28,18 +29,18 @@ end_of_both few xs ys n end (inl none) = record { front = end.front; joined = ap
 end_of_both few xs ys n end (inr none) = subst (λ l. IsEndOf (l ++ drop n ys) (xs ++ ys)) (sym none) (end_of_own xs ys n)
 
 -- arrays are kept of a walk that has ended alone
-none_or_over : (w : WalkState) (k : Kept) (f : List ℕ) → IsKeptOf w k → (walk.HasEnded w → walk.to_come w f ≡ []) → (n : ℕ) → (arrays_held k n ≡ 0) ⊎ (walk.to_come w f ≡ [])
+none_or_over : (w : WalkState) (k : KeptArrays) (f : List ℕ) → IsKeptOf w k → (walk.HasEnded w → walk.to_come w f ≡ []) → (n : ℕ) → (arrays_held k n ≡ 0) ⊎ (walk.to_come w f ≡ [])
 none_or_over w kept.Nothing f keeps over n = inl refl
 none_or_over w (kept.Offsets m o) f keeps over n = inr (over keeps.0)
 none_or_over w (kept.Both m a) f keeps over n = inr (over keeps.0)
 
-own_none : (w : WalkState) (k : Kept) (f : List ℕ) (q : Query) → IsKeptOf w k → (walk.HasEnded w → walk.to_come w f ≡ []) → (own_given f q k Directories ≡ 0) ⊎ (walk.to_come w f ≡ [])
+own_none : (w : WalkState) (k : KeptArrays) (f : List ℕ) (q : Query) → IsKeptOf w k → (walk.HasEnded w → walk.to_come w f ≡ []) → (own_given f q k Directories ≡ 0) ⊎ (walk.to_come w f ≡ [])
 own_none w k f q keeps over = at (rectangle f q) where
   at : (o : Option queries.Rectangle) → (option_map_or (λ (r : queries.Rectangle). arrays_held k r.level) o 0 ≡ 0) ⊎ (walk.to_come w f ≡ [])
   at None = inl refl
   at (Some r) = none_or_over w k f keeps over r.level
 
-task_end : (w : WalkState) (k : Kept) (f : List ℕ) (q : Query) (t : State) → IsKeptOf w k → (walk.HasEnded w → walk.to_come w f ≡ []) → IsEndOf (walk.to_come w f) (needs_of_directories f) → IsEndOf (come_by f w k q t) (needs f q)
+task_end : (w : WalkState) (k : KeptArrays) (f : List ℕ) (q : Query) (t : State) → IsKeptOf w k → (walk.HasEnded w → walk.to_come w f ≡ []) → IsEndOf (walk.to_come w f) (needs_of_directories f) → IsEndOf (come_by f w k q t) (needs f q)
 unfolding needs
 task_end w k f q Directories keeps over end = end_of_both (walk.to_come w f) (needs_of_directories f) (needs_of_query f q) (own_given f q k Directories) end (own_none w k f q keeps over)
 task_end w k f q (Reads r) keeps over end = end_of_own (needs_of_directories f) (needs_of_query f q) (own_given f q k (Reads r))
@@ -64,7 +65,7 @@ unasked_comes r f none = at r.pending none where
   at None none = refl
   at (Some a) none = absurd (none-some a.query (sym none))
 
-task_done : (f : List ℕ) (w : WalkState) (k : Kept) (q : Query) (t : State) → IsSome (outcome_in t) → come_by f w k q t ≡ []
+task_done : (f : List ℕ) (w : WalkState) (k : KeptArrays) (q : Query) (t : State) → IsSome (outcome_in t) → come_by f w k q t ≡ []
 task_done f w k q Directories done = absurd (false≢true done)
 task_done f w k q (Reads r) done = absurd (false≢true done)
 task_done f w k q (Tiles m) done = absurd (false≢true done)

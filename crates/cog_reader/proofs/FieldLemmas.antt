@@ -14,9 +14,11 @@ use Rattle.tiff_dir.specs.declared.level.Place.{Place}
 use Rattle.tiff_dir.specs.File.{◌>>=◌}
 use Rattle.tiff_dir.specs.Level.{place_of}
 use Rattle.tiff_dir.specs.Geo.{geo_place, geo_ranges}
-use Rattle.tiff_dir.specs.Needs.{ends_past, field_range, extent_of_place}
-use Rattle.tiff_dir.specs.Walk.{AreGeoPlaces, AreTyped, IsArrayOf, IsGeoFieldAt, IsGeoPlace, bytes_in}
-use Rattle.cog_reader.specs.Fields.{len_of_field, present_in, total, AreFieldParts, AreFields, IsReadOf, FieldsState}
+use Rattle.extents.specs.Extent.{ends_past}
+use Rattle.tiff_dir.specs.Needs.{field_range, extent_of_place}
+use Rattle.extents.specs.Extent.{bytes_in}
+use Rattle.tiff_dir.specs.Walk.{AreGeoPlaces, AreTyped, IsArrayOf, IsGeoFieldAt, IsGeoPlace}
+use Rattle.cog_reader.specs.GeoFields.{len_of_field, present_in, total, AreFieldParts, AreFields, IsReadOf, FieldsState}
 use Rattle.cog_reader.proofs.ArrayLemmas.{inside_array}
 
 -- ---- the ranges of the fields

@@ -15,33 +15,35 @@ use Rattle.tiff_dir.specs.File.{order_of}
 use Rattle.tiff_dir.specs.Geo.{geo_ranges}
 use Rattle.tiff_dir.specs.WalkState.{WalkState}
 use Rattle.tiff_dir.specs.Level.{level_layout}
-use Rattle.tiff_dir.specs.Needs.{Extent, bytes_in, extent_of_place, IsEndOf}
+use Rattle.extents.specs.Extent.{Extent, bytes_in}
+use Rattle.tiff_dir.specs.Needs.{extent_of_place, IsEndOf}
 use Rattle.tiff_dir.specs.Query as queries
 use Rattle.tiff_dir.specs.Query.{needs_of_query, rectangle}
 use Rattle.tiff_dir.specs.Walk as walk
-use Rattle.tiff_dir.specs.Walk.{levels_of, extent_of_span, HasEnded, IsArrayOf}
+use Rattle.extents.specs.Extent.{extent_of_span}
+use Rattle.tiff_dir.specs.Walk.{levels_of, HasEnded, IsArrayOf}
 use Rattle.tile_plan.specs.declared.asked.Rectangle.{Rectangle}
 use Rattle.tile_plan.specs.declared.plan.Group.{Group}
 use Rattle.tile_plan.specs.Levels.{rectangle_of, IsSmall}
-use Rattle.tile_mosaic.specs.declared.arrays.Arrays.{Arrays}
-use Rattle.cog_reader.specs.declared.fields.Fields.{Fields}
-use Rattle.cog_reader.specs.declared.kept.Kept.{Kept}
-use Rattle.cog_reader.specs.declared.kept.Kept.TheVariants as kept
-use Rattle.tile_mosaic.specs.declared.mosaic.Mosaic.{Mosaic}
+use Rattle.tile_plan.specs.declared.arrays.Arrays.{Arrays}
+use Rattle.cog_reader.specs.declared.fields.GeoFields.{GeoFields}
+use Rattle.cog_reader.specs.declared.kept_arrays.KeptArrays.{KeptArrays}
+use Rattle.cog_reader.specs.declared.kept_arrays.KeptArrays.TheVariants as kept
+use Rattle.tile_plan.specs.declared.window_builder.WindowBuilder.{WindowBuilder}
 use Rattle.cog_reader.specs.declared.outcome.Outcome.TheVariants.{Fault}
 use Rattle.cog_reader.specs.declared.state.State.{State}
-use Rattle.cog_reader.specs.declared.state.State.TheVariants.{Directories, Arrays as Reads, Tiles, Fields as Geo, Answered}
-use Rattle.cog_reader.specs.Fields.{present_in, IsReadOf}
-use Rattle.cog_reader.specs.Kept.{arrays_held, next_array, KeptAgrees, IsKeptOf}
-use Rattle.tile_mosaic.specs.Mosaic.{IsWantedGroup, IsPlan, IsUnderway}
+use Rattle.cog_reader.specs.declared.state.State.TheVariants.{Directories, Arrays as Reads, Tiles, GeoFields as Geo, Answered}
+use Rattle.cog_reader.specs.GeoFields.{present_in, IsReadOf}
+use Rattle.cog_reader.specs.KeptArrays.{arrays_held, next_array, KeptAgrees, IsKeptOf}
+use Rattle.tile_plan.specs.WindowBuilder.{IsWantedGroup, IsPlan, IsUnderway}
 use Rattle.cog_reader.specs.Reader.{own_given, steps_by, unread_by, wanted_by, StateAgrees}
 use Rattle.cog_reader.specs.Give.{Gives, AcceptsDirectoryRange, Snapshot, AcceptsRange, AcceptsDirectories, Advances, TellsFault}
-use Rattle.tile_mosaic.specs.Unpacked.{KeptTiles, AreTilesOf}
+use Rattle.tile_plan.specs.TileCache.{KeptTiles, AreTilesOf}
 use Rattle.cog_reader.proofs.FieldLemmas.{geo_ranges_are}
 use Rattle.cog_reader.proofs.KeptLemmas.{some_at, from_some}
 use Rattle.cog_reader.proofs.StepLemmas.{both_at, directory_fault, has_both, needs_split, window_fault, IsLevelOf}
 
-abbrev pub at_state : WalkState → Kept → KeptTiles → State → Snapshot
+abbrev pub at_state : WalkState → KeptArrays → KeptTiles → State → Snapshot
 at_state w k ts t = record { walk = w; kept = k; tiles = ts; state = t }
 
 pub some_more : {X : Type 0} (o : Option X) (P Q : X → Type 0) → IsSomeAnd o P → ((x : X) → P x → Q x) → IsSomeAnd o Q
@@ -63,7 +65,7 @@ one_less None old new rest bad = absurd bad
 one_less (Some r) old new rest is = record { front = r ∷ []; joined = ap (λ l. l ++ rest) is }
 
 -- one array more of a level is held
-array_held : (come needs : List Extent) (k v : Kept) (n : ℕ) (o : Option queries.Rectangle) → come ≡ [] → arrays_held v n ≡ arrays_held k n + 1 → IfSome o (λ s. n ≡ s.level)
+array_held : (come needs : List Extent) (k v : KeptArrays) (n : ℕ) (o : Option queries.Rectangle) → come ≡ [] → arrays_held v n ≡ arrays_held k n + 1 → IfSome o (λ s. n ≡ s.level)
     → IsEndOf (come ++ drop (option_map_or (λ (s : queries.Rectangle). arrays_held v s.level) o 0) needs) (come ++ drop (option_map_or (λ (s : queries.Rectangle). arrays_held k s.level) o 0) needs)
 array_held come needs k v n None over more one = same_end (come ++ drop 0 needs)
 array_held come needs k v n (Some s) over more one =
@@ -77,13 +79,13 @@ array_held come needs k v n (Some s) over more one =
 
 -- ---- directories
 
-nothing_kept : (w : WalkState) (k : Kept) (P : Extent → Type 0) → IsKeptOf w k → IsSomeAnd (walk.wanted w) P → (v : WalkState) → IsKeptOf v k
+nothing_kept : (w : WalkState) (k : KeptArrays) (P : Extent → Type 0) → IsKeptOf w k → IsSomeAnd (walk.wanted w) P → (v : WalkState) → IsKeptOf v k
 nothing_kept w kept.Nothing P keeps some v = tt
 nothing_kept w (kept.Offsets n o) P keeps some v = absurd (subst (λ x. IsSomeAnd x P) keeps.0 some)
 nothing_kept w (kept.Both n a) P keeps some v = absurd (subst (λ x. IsSomeAnd x P) keeps.0 some)
 
-pub accepts_directories : (complete : ℕ) (bytes : List ℕ) (w v : WalkState) (k : Kept) (ts : KeptTiles) → IsKeptOf w k → IsSomeAnd (walk.wanted w) (λ r. length bytes ≡ r.len) → AcceptsDirectoryRange bytes w v → Advances complete bytes (at_state w k ts Directories) (at_state v k ts Directories)
-accepts_directories complete bytes w v k ts keeps some on = record {
+pub accepts_directories : (file_length : ℕ) (bytes : List ℕ) (w v : WalkState) (k : KeptArrays) (ts : KeptTiles) → IsKeptOf w k → IsSomeAnd (walk.wanted w) (λ r. length bytes ≡ r.len) → AcceptsDirectoryRange bytes w v → Advances file_length bytes (at_state w k ts Directories) (at_state v k ts Directories)
+accepts_directories file_length bytes w v k ts keeps some on = record {
   kept = nothing_kept w k (λ r. length bytes ≡ r.len) keeps some v;
   state = tt;
   same = λ f q base here next of. (record { size = base.size; walked = on.agrees f base.walked next; kept = base.kept }, tt, of);
@@ -95,7 +97,7 @@ accepts_directories complete bytes w v k ts keeps some on = record {
 
 -- ---- an array
 
-pub which_next : (k : Kept) (n : ℕ) (l : Level) (p : Place) → next_array k n l ≡ Some p → ((arrays_held k n ≡ 0) × (p ≡ l.offsets)) ⊎ ((arrays_held k n ≡ 1) × (p ≡ l.counts))
+pub which_next : (k : KeptArrays) (n : ℕ) (l : Level) (p : Place) → next_array k n l ≡ Some p → ((arrays_held k n ≡ 0) × (p ≡ l.offsets)) ⊎ ((arrays_held k n ≡ 1) × (p ≡ l.counts))
 which_next kept.Nothing n l p is = inl (refl, cc)
 which_next (kept.Offsets m o) n l p is = at (m == n) is where
   at : (b : Bool) → (if b then Some l.counts else Some l.offsets) ≡ Some p → ((◌≡◌ {A = ℕ} (if b then 1 else 0) 0) × (p ≡ l.offsets)) ⊎ ((◌≡◌ {A = ℕ} (if b then 1 else 0) 1) × (p ≡ l.counts))
@@ -107,18 +109,18 @@ which_next (kept.Both m a) n l p is = at (m == n) is where
   at false is = inl (refl, cc)
 
 -- the place that is wanted
-pub wanted_place : (w : WalkState) (k : Kept) (r : Rectangle) (l : Level) (P : Extent → Type 0) → slice_get (levels_of w) r.level ≡ Some l → IsSomeAnd (wanted_by w k (Reads r)) P
+pub wanted_place : (w : WalkState) (k : KeptArrays) (r : Rectangle) (l : Level) (P : Extent → Type 0) → slice_get (levels_of w) r.level ≡ Some l → IsSomeAnd (wanted_by w k (Reads r)) P
     → (p : Place) × (next_array k r.level l ≡ Some p) × (wanted_by w k (Reads r) ≡ Some (extent_of_place p)) × P (extent_of_place p)
 wanted_place w k r l P there some = at (next_array k r.level l) refl (rw there at some) where
   at : (o : Option Place) → next_array k r.level l ≡ o → IsSomeAnd (option_map extent_of_place o) P → (p : Place) × (next_array k r.level l ≡ Some p) × (wanted_by w k (Reads r) ≡ Some (extent_of_place p)) × P (extent_of_place p)
   at None is bad = absurd bad
   at (Some p) is good = (p, is, rw (there, is) refl, good)
 
-pub accepts_array : (complete : ℕ) (bytes : List ℕ) (w : WalkState) (k : Kept) (v : Kept) (ts : KeptTiles) (r : Rectangle) (l : Level) (o : Order) → HasEnded w → IsSomeAnd (slice_get (levels_of w) r.level) (λ m. IsSmall m r) → IsLevelOf w r.level l
+pub accepts_array : (file_length : ℕ) (bytes : List ℕ) (w : WalkState) (k : KeptArrays) (v : KeptArrays) (ts : KeptTiles) (r : Rectangle) (l : Level) (o : Order) → HasEnded w → IsSomeAnd (slice_get (levels_of w) r.level) (λ m. IsSmall m r) → IsLevelOf w r.level l
     → IsSomeAnd (wanted_by w k (Reads r)) (λ x. length bytes ≡ x.len) → IsKeptOf w v → arrays_held v r.level ≡ arrays_held k r.level + 1 → ((f : List ℕ) → walk.WalkAgrees w f → order_of f ≡ Some o)
     → ((f : List ℕ) → order_of f ≡ Some o → level_layout f r.level ≡ Some (layout_of l) → KeptAgrees f k → IsSomeAnd (next_array k r.level l) (λ p. IsArrayOf f p bytes) → KeptAgrees f v)
-    → ((f : List ℕ) → walk.WalkAgrees w f → walk.to_come w f ≡ []) → Advances complete bytes (at_state w k ts (Reads r)) (at_state w v ts (Reads r))
-accepts_array complete bytes w k v ts r l o ended small of_level some keeps more order same over =
+    → ((f : List ℕ) → walk.WalkAgrees w f → walk.to_come w f ≡ []) → Advances file_length bytes (at_state w k ts (Reads r)) (at_state w v ts (Reads r))
+accepts_array file_length bytes w k v ts r l o ended small of_level some keeps more order same over =
     let (p, next, wants, len) = wanted_place w k r l (λ x. length bytes ≡ x.len) of_level.there some in record {
       kept = keeps;
       state = (ended, small);
@@ -153,7 +155,7 @@ accepts_array complete bytes w k v ts r l o ended small of_level some keeps more
 -- ---- a group
 
 -- the group that is wanted
-wanted_group : (w : WalkState) (k : Kept) (m : Mosaic) (P : Extent → Type 0) → IsSomeAnd (wanted_by w k (Tiles m)) P
+wanted_group : (w : WalkState) (k : KeptArrays) (m : WindowBuilder) (P : Extent → Type 0) → IsSomeAnd (wanted_by w k (Tiles m)) P
     → (g : Group) × (slice_get m.groups m.given ≡ Some g) × (wanted_by w k (Tiles m) ≡ Some (extent_of_span g.span)) × P (extent_of_span g.span)
 wanted_group w k m P some = at (slice_get m.groups m.given) refl some where
   at : (o : Option Group) → slice_get m.groups m.given ≡ o → IsSomeAnd (option_map (λ (g : Group). extent_of_span g.span) o) P
@@ -162,14 +164,14 @@ wanted_group w k m P some = at (slice_get m.groups m.given) refl some where
   at (Some g) is good = (g, is, ap (option_map (λ (g : Group). extent_of_span g.span)) is, good)
 
 -- and one of so many bytes
-the_group : (m : Mosaic) {len : ℕ} → IsSomeAnd (slice_get m.groups m.given) (λ g. len ≡ (extent_of_span g.span).len) → (g : Group) × (slice_get m.groups m.given ≡ Some g) × (len ≡ (extent_of_span g.span).len)
+the_group : (m : WindowBuilder) {len : ℕ} → IsSomeAnd (slice_get m.groups m.given) (λ g. len ≡ (extent_of_span g.span).len) → (g : Group) × (slice_get m.groups m.given ≡ Some g) × (len ≡ (extent_of_span g.span).len)
 the_group m {len} some = at (slice_get m.groups m.given) refl some where
   at : (o : Option Group) → slice_get m.groups m.given ≡ o → IsSomeAnd o (λ g. len ≡ (extent_of_span g.span).len) → (g : Group) × (slice_get m.groups m.given ≡ Some g) × (len ≡ (extent_of_span g.span).len)
   at None is bad = absurd bad
   at (Some g) is good = (g, is, good)
 
 -- a group is among what the query needs
-pub group_at : (f : List ℕ) (q : Query) (a : Arrays) (m : Mosaic) (g : Group) (n : ℕ) → IsUnderway f q a m → slice_get m.groups n ≡ Some g → slice_get (needs_of_query f q) (2 + n) ≡ Some (extent_of_span g.span)
+pub group_at : (f : List ℕ) (q : Query) (a : Arrays) (m : WindowBuilder) (g : Group) (n : ℕ) → IsUnderway f q a m → slice_get m.groups n ≡ Some g → slice_get (needs_of_query f q) (2 + n) ≡ Some (extent_of_span g.span)
 group_at f q a m g n u is =
     let r = m.picture.rectangle in
     let split = needs_split f q r a.level u.planned.rectangle_is u.planned.good u.planned.layout_is in
@@ -179,18 +181,18 @@ group_at f q a m g n u is =
       shift i x y rest = (let e : 2 + i ≡ suc (suc i) = omega arith in rw e refl)
 
 -- and so is the one that is wanted
-pub group_needed : (f : List ℕ) (q : Query) (a : Arrays) (m : Mosaic) (g : Group) → IsUnderway f q a m → slice_get m.groups m.given ≡ Some g → slice_get (needs_of_query f q) (2 + m.given) ≡ Some (extent_of_span g.span)
+pub group_needed : (f : List ℕ) (q : Query) (a : Arrays) (m : WindowBuilder) (g : Group) → IsUnderway f q a m → slice_get m.groups m.given ≡ Some g → slice_get (needs_of_query f q) (2 + m.given) ≡ Some (extent_of_span g.span)
 group_needed f q a m g u is = group_at f q a m g m.given u is
 
-next_group : (m : Mosaic) (g : Group) (bytes : List ℕ) (P : Extent → Type 0) → slice_get m.groups m.given ≡ Some g → P (extent_of_span g.span) → IsSomeAnd (slice_get m.groups m.given) (λ g. P (extent_of_span g.span))
+next_group : (m : WindowBuilder) (g : Group) (bytes : List ℕ) (P : Extent → Type 0) → slice_get m.groups m.given ≡ Some g → P (extent_of_span g.span) → IsSomeAnd (slice_get m.groups m.given) (λ g. P (extent_of_span g.span))
 next_group m g bytes P is good = from_some (slice_get m.groups m.given) g (λ g. P (extent_of_span g.span)) is good
 
-pub accepts_group : (complete : ℕ) (bytes : List ℕ) (w : WalkState) (k : Kept) (ts us : KeptTiles) (n : ℕ) (a : Arrays) (m v : Mosaic) → HasEnded w → IsKeptOf w k → k ≡ kept.Both n a → IsPlan complete a v → v.groups ≡ m.groups → v.given ≡ m.given + 1
+pub accepts_group : (file_length : ℕ) (bytes : List ℕ) (w : WalkState) (k : KeptArrays) (ts us : KeptTiles) (n : ℕ) (a : Arrays) (m v : WindowBuilder) → HasEnded w → IsKeptOf w k → k ≡ kept.Both n a → IsPlan file_length a v → v.groups ≡ m.groups → v.given ≡ m.given + 1
     → IsSomeAnd (slice_get m.groups m.given) (λ g. length bytes ≡ (extent_of_span g.span).len)
-    → us.most ≡ ts.most → ((f : List ℕ) (q : Query) → IsUnderway f q a m → IsWantedGroup f m bytes → AreTilesOf f ts → IsUnderway f q a v × AreTilesOf f us) → Advances complete bytes (at_state w k ts (Tiles m)) (at_state w k us (Tiles v))
-accepts_group complete bytes w k ts us n a m v ended keeps is plan same more some most underway = record {
+    → us.most ≡ ts.most → ((f : List ℕ) (q : Query) → IsUnderway f q a m → IsWantedGroup f m bytes → AreTilesOf f ts → IsUnderway f q a v × AreTilesOf f us) → Advances file_length bytes (at_state w k ts (Tiles m)) (at_state w k us (Tiles v))
+accepts_group file_length bytes w k ts us n a m v ended keeps is plan same more some most underway = record {
   kept = keeps;
-  state = (ended, has_both k n a (λ b. IsPlan complete b v) is plan);
+  state = (ended, has_both k n a (λ b. IsPlan file_length b v) is plan);
   same = λ f q base here next of. (
       let u = both_at k n a (λ b. IsUnderway f q b m) is here.0 in
       let (g, there, wants, given) = wanted_group w k m (λ r. bytes ≡ bytes_in f r) next in
@@ -214,10 +216,10 @@ accepts_group complete bytes w k ts us n a m v ended keeps is plan same more som
       );
 }
 
-pub tells_group : (complete : ℕ) (bytes : List ℕ) (w : WalkState) (k : Kept) (ts us : KeptTiles) (n : ℕ) (a : Arrays) (m v : Mosaic) (fault : FileFault) → k ≡ kept.Both n a
+pub tells_group : (file_length : ℕ) (bytes : List ℕ) (w : WalkState) (k : KeptArrays) (ts us : KeptTiles) (n : ℕ) (a : Arrays) (m v : WindowBuilder) (fault : FileFault) → k ≡ kept.Both n a
     → ((f : List ℕ) (q : Query) → IsUnderway f q a m → IsWantedGroup f m bytes → IsFaultOfWindow f q fault)
-    → ((f : List ℕ) (q : Query) → IsUnderway f q a m → IsWantedGroup f m bytes → AreTilesOf f ts → AreTilesOf f us) → us.most ≡ ts.most → TellsFault complete bytes (at_state w k ts (Tiles m)) (at_state w k us (Tiles v)) fault
-tells_group complete bytes w k ts us n a m v fault is damaged tiles most = record {
+    → ((f : List ℕ) (q : Query) → IsUnderway f q a m → IsWantedGroup f m bytes → AreTilesOf f ts → AreTilesOf f us) → us.most ≡ ts.most → TellsFault file_length bytes (at_state w k ts (Tiles m)) (at_state w k us (Tiles v)) fault
+tells_group file_length bytes w k ts us n a m v fault is damaged tiles most = record {
   walk = refl;
   kept = refl;
   stands = λ f q base here next. (
@@ -232,17 +234,17 @@ tells_group complete bytes w k ts us n a m v fault is damaged tiles most = recor
   most = most;
 }
 
-pub wanted_len : (w : WalkState) (k : Kept) (m : Mosaic) (len : ℕ) → IsSomeAnd (wanted_by w k (Tiles m)) (λ r. len ≡ r.len) → IsSomeAnd (slice_get m.groups m.given) (λ g. len ≡ (extent_of_span g.span).len)
+pub wanted_len : (w : WalkState) (k : KeptArrays) (m : WindowBuilder) (len : ℕ) → IsSomeAnd (wanted_by w k (Tiles m)) (λ r. len ≡ r.len) → IsSomeAnd (slice_get m.groups m.given) (λ g. len ≡ (extent_of_span g.span).len)
 wanted_len w k m len some = (let (g, there, wants, good) = wanted_group w k m (λ r. len ≡ r.len) some in from_some (slice_get m.groups m.given) g (λ g. len ≡ (extent_of_span g.span).len) there good)
 
-pub len_wanted : (w : WalkState) (k : Kept) (m : Mosaic) (len : ℕ) → IsSomeAnd (slice_get m.groups m.given) (λ g. len ≡ (extent_of_span g.span).len) → IsSomeAnd (wanted_by w k (Tiles m)) (λ r. len ≡ r.len)
+pub len_wanted : (w : WalkState) (k : KeptArrays) (m : WindowBuilder) (len : ℕ) → IsSomeAnd (slice_get m.groups m.given) (λ g. len ≡ (extent_of_span g.span).len) → IsSomeAnd (wanted_by w k (Tiles m)) (λ r. len ≡ r.len)
 len_wanted w k m len some =
     let (g, there, is) = the_group m some in
     from_some (wanted_by w k (Tiles m)) (extent_of_span g.span) (λ r. len ≡ r.len) (ap (option_map (λ (g : Group). extent_of_span g.span)) there) is
 
 -- ---- a geo field
 
-wanted_field : (w : WalkState) (k : Kept) (x : Fields) (P : Extent → Type 0) → IsSomeAnd (wanted_by w k (Geo x)) P
+wanted_field : (w : WalkState) (k : KeptArrays) (x : GeoFields) (P : Extent → Type 0) → IsSomeAnd (wanted_by w k (Geo x)) P
     → (p : Place) × (slice_get (present_in x.places) x.given ≡ Some p) × (wanted_by w k (Geo x) ≡ Some (extent_of_place p)) × P (extent_of_place p)
 wanted_field w k x P some = at (slice_get (present_in x.places) x.given) refl some where
   at : (o : Option Place) → slice_get (present_in x.places) x.given ≡ o → IsSomeAnd (option_map extent_of_place o) P
@@ -250,13 +252,13 @@ wanted_field w k x P some = at (slice_get (present_in x.places) x.given) refl so
   at None is bad = absurd bad
   at (Some p) is good = (p, is, ap (option_map extent_of_place) is, good)
 
-pub field_len : (w : WalkState) (k : Kept) (x : Fields) (len : ℕ) → IsSomeAnd (wanted_by w k (Geo x)) (λ r. len ≡ r.len) → IsSomeAnd (slice_get (present_in x.places) x.given) (λ p. len ≡ p.len)
+pub field_len : (w : WalkState) (k : KeptArrays) (x : GeoFields) (len : ℕ) → IsSomeAnd (wanted_by w k (Geo x)) (λ r. len ≡ r.len) → IsSomeAnd (slice_get (present_in x.places) x.given) (λ p. len ≡ p.len)
 field_len w k x len some = (let (p, there, wants, good) = wanted_field w k x (λ r. len ≡ r.len) some in from_some (slice_get (present_in x.places) x.given) p (λ p. len ≡ p.len) there good)
 
-pub accepts_field : (complete : ℕ) (bytes : List ℕ) (w : WalkState) (k : Kept) (ts : KeptTiles) (x v : Fields) → HasEnded w → IsKeptOf w k → IsSomeAnd (wanted_by w k (Geo x)) (λ r. length bytes ≡ r.len) → v.places ≡ x.places → v.given ≡ x.given + 1
-    → ((f : List ℕ) → IsReadOf f x → IsSomeAnd (slice_get (present_in x.places) x.given) (λ p. IsArrayOf f p bytes) → IsReadOf f v) → Advances complete bytes (at_state w k ts (Geo x)) (at_state w k ts (Geo v))
+pub accepts_field : (file_length : ℕ) (bytes : List ℕ) (w : WalkState) (k : KeptArrays) (ts : KeptTiles) (x v : GeoFields) → HasEnded w → IsKeptOf w k → IsSomeAnd (wanted_by w k (Geo x)) (λ r. length bytes ≡ r.len) → v.places ≡ x.places → v.given ≡ x.given + 1
+    → ((f : List ℕ) → IsReadOf f x → IsSomeAnd (slice_get (present_in x.places) x.given) (λ p. IsArrayOf f p bytes) → IsReadOf f v) → Advances file_length bytes (at_state w k ts (Geo x)) (at_state w k ts (Geo v))
 unfolding needs_of_query
-accepts_field complete bytes w k ts x v ended keeps some places more read = record {
+accepts_field file_length bytes w k ts x v ended keeps some places more read = record {
   kept = keeps;
   state = ended;
   same = λ f q base here next of. (
@@ -288,9 +290,9 @@ accepts_field complete bytes w k ts x v ended keeps some places more read = reco
 
 -- ---- directories, with or without a fault
 
-pub directories_told : (complete : ℕ) (bytes : List ℕ) (w v : WalkState) (k : Kept) (ts : KeptTiles) (o : Option FileFault) → IsKeptOf w k → IsSomeAnd (walk.wanted w) (λ r. length bytes ≡ r.len) → AcceptsDirectories bytes w v o → AcceptsRange complete bytes (at_state w k ts Directories) (at_state v k ts Directories) o
-directories_told complete bytes w v k ts None keeps some on = accepts_directories complete bytes w v k ts keeps some on
-directories_told complete bytes w v k ts (Some fault) keeps some told = record {
+pub directories_told : (file_length : ℕ) (bytes : List ℕ) (w v : WalkState) (k : KeptArrays) (ts : KeptTiles) (o : Option FileFault) → IsKeptOf w k → IsSomeAnd (walk.wanted w) (λ r. length bytes ≡ r.len) → AcceptsDirectories bytes w v o → AcceptsRange file_length bytes (at_state w k ts Directories) (at_state v k ts Directories) o
+directories_told file_length bytes w v k ts None keeps some on = accepts_directories file_length bytes w v k ts keeps some on
+directories_told file_length bytes w v k ts (Some fault) keeps some told = record {
   walk = told.0;
   kept = refl;
   stands = λ f q base here next. directory_fault f q fault (told.1 f base.walked next);
@@ -300,7 +302,7 @@ directories_told complete bytes w v k ts (Some fault) keeps some told = record {
 
 -- ---- a fault answers the query
 
-few_held : (k : Kept) (n : ℕ) → arrays_held k n ≤ 2
+few_held : (k : KeptArrays) (n : ℕ) → arrays_held k n ≤ 2
 few_held kept.Nothing n = omega arith
 few_held (kept.Offsets m o) n = at (m == n) where
   at : (b : Bool) → (if b then 1 else 0) ≤ 2
@@ -311,15 +313,15 @@ few_held (kept.Both m a) n = at (m == n) where
   at true = omega arith
   at false = omega arith
 
-some_steps : (w : WalkState) (k : Kept) (t : State) (P : Extent → Type 0) → IsSomeAnd (wanted_by w k t) P → 0 < steps_by w k t
+some_steps : (w : WalkState) (k : KeptArrays) (t : State) (P : Extent → Type 0) → IsSomeAnd (wanted_by w k t) P → 0 < steps_by w k t
 some_steps w k Directories P some = omega arith
 some_steps w k (Reads r) P some = (let few = few_held k r.level in omega (arith, few))
 some_steps w k (Tiles m) P some = (let (g, there, wants, good) = wanted_group w k m P some in let less = slice_get_within m.groups m.given g there in omega (arith, less))
 some_steps w k (Geo x) P some = (let (p, there, wants, good) = wanted_field w k x P some in let less = slice_get_within (present_in x.places) x.given p there in omega (arith, less))
 some_steps w k (Answered o) P some = absurd some
 
-pub gives_on : (complete : ℕ) (bytes : List ℕ) (q : Query) (old new : Snapshot) → Advances complete bytes old new → Gives complete bytes q old new
-gives_on complete bytes q old new on = record {
+pub gives_on : (file_length : ℕ) (bytes : List ℕ) (q : Query) (old new : Snapshot) → Advances file_length bytes old new → Gives file_length bytes q old new
+gives_on file_length bytes q old new on = record {
   kept = on.kept;
   state = on.state;
   same = λ f base here next of. on.same f q base here next of;
@@ -329,9 +331,9 @@ gives_on complete bytes q old new on = record {
   steps = on.steps;
 }
 
-pub gives_fault : (complete : ℕ) (bytes : List ℕ) (q : Query) (old new : Snapshot) (fault : FileFault) → IsKeptOf old.walk old.kept → IsSomeAnd (wanted_by old.walk old.kept old.state) (λ r. length bytes ≡ r.len)
-    → TellsFault complete bytes old new fault → Gives complete bytes q old (at_state new.walk new.kept new.tiles (Answered (Fault fault)))
-gives_fault complete bytes q old new fault keeps some told = record {
+pub gives_fault : (file_length : ℕ) (bytes : List ℕ) (q : Query) (old new : Snapshot) (fault : FileFault) → IsKeptOf old.walk old.kept → IsSomeAnd (wanted_by old.walk old.kept old.state) (λ r. length bytes ≡ r.len)
+    → TellsFault file_length bytes old new fault → Gives file_length bytes q old (at_state new.walk new.kept new.tiles (Answered (Fault fault)))
+gives_fault file_length bytes q old new fault keeps some told = record {
   kept = subst (λ x. IsKeptOf x new.kept) (sym told.walk) (subst (IsKeptOf old.walk) (sym told.kept) keeps);
   state = tt;
   same = λ f base here next of. (

@@ -20,7 +20,8 @@ use Rattle.tiff_dir.specs.declared.order.Order.TheVariants.{Little, Big}
 use Rattle.tiff_dir.specs.declared.query.Query.TheVariants.{Info}
 use Rattle.tiff_dir.specs.File.{◌>>=◌, Field, kind_of, size_of, order_of, number, field, field_value, value, values_at, default_of, has_all_tags}
 use Rattle.tiff_dir.specs.Level.{Grid, Layout, compression_of, grid_at, depth_at, layout_at, layouts, level_directories, place_of}
-use Rattle.tiff_dir.specs.Needs.{bytes_in, ends_past, extent_of_place}
+use Rattle.extents.specs.Extent.{bytes_in, ends_past}
+use Rattle.tiff_dir.specs.Needs.{extent_of_place}
 use Rattle.tiff_dir.specs.Number.{number_in}
 use Rattle.tiff_dir.specs.Geo.{geo_place, geo_ranges, item_count}
 use Rattle.tiff_dir.specs.Geo as file
@@ -34,11 +35,11 @@ use Rattle.tiff_dir.specs.Faulty.{IsFaulty, IsFaultOfInfo}
 use Rattle.tiff_dir.specs.Query.{needs_of_query}
 use Rattle.geokeys.specs.Doubles.{doubles_in}
 use Rattle.cog_reader.specs.Outcome.{level_sides, items_of}
-use Rattle.cog_reader.specs.Step.{IsInfoError}
+use Rattle.cog_reader.specs.ReaderStep.{IsInfoError}
 use Rattle.tiff_dir.specs.Walk.{AreGeoPlaces, AreTyped, IsGeoFieldAt, IsGeoPlace}
 use Rattle.geokeys.specs.Keys as keys
 use Rattle.geokeys.specs.Keys.{number_at}
-use Rattle.cog_reader.specs.Fields.{geo_bytes, len_of_field, present_in, AreFieldParts, IsReadOf, FieldsState}
+use Rattle.cog_reader.specs.GeoFields.{geo_bytes, len_of_field, present_in, AreFieldParts, IsReadOf, FieldsState}
 use Rattle.cog_reader.proofs.FieldLemmas.{geo_ranges_are}
 
 pub passed_on : {A E : Type 0} (result : Result A E) (error : E) (P : E → Type 0) → IsErrAnd result (λ e. e ≡ error) → P error → IfErr result P

@@ -10,3 +10,7 @@ pub mod ReaderLemmas
 pub mod SoundLemmas
 pub mod StepLemmas
 pub mod UpcomingLemmas
+pub mod GoingLemmas
+pub mod HeldLemmas
+pub mod AheadLemmas
+pub mod EarlyLemmas

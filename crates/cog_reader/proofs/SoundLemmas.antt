@@ -11,7 +11,8 @@ use Rattle.tiff_dir.specs.declared.query.Query.TheVariants.{Window, Info}
 use Rattle.tiff_dir.specs.declared.fault.FileFault.{FileFault}
 use Rattle.tiff_dir.specs.declared.fault.FileFault.TheVariants.{PastEnd, TileSize, Packet, Outside, TooLarge}
 use Rattle.tiff_dir.specs.Level.{Layout, level_layout}
-use Rattle.tiff_dir.specs.Needs.{ends_past, extent_of_place}
+use Rattle.extents.specs.Extent.{ends_past}
+use Rattle.tiff_dir.specs.Needs.{extent_of_place}
 use Rattle.tiff_dir.specs.Described.{layout_of}
 use Rattle.tiff_dir.specs.Fault.{IsFaultOfDirectories}
 use Rattle.tiff_dir.specs.Faulty.{HasBadPackets, IsFaultOfWindow, IsFaulty, IsWindow}
@@ -20,13 +21,13 @@ use Rattle.tiff_dir.specs.Window.{HasSamples, IsUnpacked}
 use Rattle.tile_plan.specs.declared.asked.Rectangle.{Rectangle}
 use Rattle.tile_plan.specs.Levels.{rectangle_of}
 use Rattle.tile_plan.specs.Plan.{tiles_of, IsPlanned}
-use Rattle.tile_mosaic.specs.declared.arrays.Arrays.{Arrays}
-use Rattle.tile_mosaic.specs.Mosaic.{MosaicState, IsPainted, IsUnderway}
+use Rattle.tile_plan.specs.declared.arrays.Arrays.{Arrays}
+use Rattle.tile_plan.specs.WindowBuilder.{WindowState, IsPainted, IsUnderway}
 use Rattle.cog_reader.proofs.ArrayLemmas.{array_some, inside_array, ranges_are}
 use Rattle.cog_reader.proofs.KeptLemmas.{from_some, some_at}
 
 -- the arrays end in the file
-arrays_inside : (f : List ℕ) (q : Query) (a : Arrays) (w : MosaicState) → IsUnderway f q a w
+arrays_inside : (f : List ℕ) (q : Query) (a : Arrays) (w : WindowState) → IsUnderway f q a w
     → (ends_past f (extent_of_place a.level.offsets) ≡ false) × (ends_past f (extent_of_place a.level.counts) ≡ false)
 arrays_inside f q a w u =
     let some = array_some a.level in (
@@ -40,7 +41,7 @@ window_is : (f : List ℕ) (q : Query) (a : Arrays) (r : Rectangle) → IsPlanne
 unfolding window_tiles
 window_is f q a r p = rw (p.good, p.rectangle_is, p.described.grid) refl
 
-no_past : (f : List ℕ) (q : Query) (a : Arrays) (w : MosaicState) → IsUnderway f q a w → list_any (ends_past f) (array_ranges f q ++ flat_map option_to_list (tile_ranges f q)) ≡ false
+no_past : (f : List ℕ) (q : Query) (a : Arrays) (w : WindowState) → IsUnderway f q a w → list_any (ends_past f) (array_ranges f q ++ flat_map option_to_list (tile_ranges f q)) ≡ false
 unfolding array_ranges
 no_past f q a w u =
     let r = w.picture.rectangle in
@@ -53,7 +54,7 @@ both_false : (a b : Bool) → (a || b) ≡ false → (a ≡ false) × (b ≡ fal
 both_false true b is = absurd (false≢true (sym is))
 both_false false b is = (refl, is)
 
-no_damage : (f : List ℕ) (q : Query) (a : Arrays) (w : MosaicState) → IsUnderway f q a w → ((t : ℕ) → IsAmong (tiles_of a.level w.picture.rectangle) t → IsPainted f w.picture.rectangle.level w.picture t)
+no_damage : (f : List ℕ) (q : Query) (a : Arrays) (w : WindowState) → IsUnderway f q a w → ((t : ℕ) → IsAmong (tiles_of a.level w.picture.rectangle) t → IsPainted f w.picture.rectangle.level w.picture t)
     → HasBadPackets f q → ⊥
 no_damage f q a w u painted h =
     let r = w.picture.rectangle in
@@ -65,7 +66,7 @@ no_damage f q a w u painted h =
     let none = some_at (segment f r.level t) here.bytes (Packed (layout_of l)) here.bytes_are laid in
     none here.plain (subst (λ m. IsUnpacked (layout_of m) here.bytes here.plain) u.level here.unpacked)
 
-no_fault_of_window : (f : List ℕ) (q : Query) (a : Arrays) (w : MosaicState) (fault : FileFault) → IsUnderway f q a w
+no_fault_of_window : (f : List ℕ) (q : Query) (a : Arrays) (w : WindowState) (fault : FileFault) → IsUnderway f q a w
     → ((t : ℕ) → IsAmong (tiles_of a.level w.picture.rectangle) t → IsPainted f w.picture.rectangle.level w.picture t) → IsFaultOfWindow f q fault → ⊥
 no_fault_of_window f q a w PastEnd u painted bad = false≢true (sym (no_past f q a w u) ∙ bad)
 no_fault_of_window f q a w TileSize u painted bad = u.needed.right bad
@@ -74,7 +75,7 @@ no_fault_of_window f q a w Outside u painted bad = false≢true (sym (both_false
 no_fault_of_window f q a w TooLarge u painted bad = false≢true (sym (both_false (is_outside f q) (is_too_large f q) u.planned.good).1 ∙ bad)
 no_fault_of_window f q a w _ u painted bad = absurd bad
 
-pub whole_window : (f : List ℕ) (q : Query) (a : Arrays) (w : MosaicState) (v : List ℕ) → IsUnderway f q a w → ((t : ℕ) → IsAmong (tiles_of a.level w.picture.rectangle) t → IsPainted f w.picture.rectangle.level w.picture t)
+pub whole_window : (f : List ℕ) (q : Query) (a : Arrays) (w : WindowState) (v : List ℕ) → IsUnderway f q a w → ((t : ℕ) → IsAmong (tiles_of a.level w.picture.rectangle) t → IsPainted f w.picture.rectangle.level w.picture t)
     → ((fault : FileFault) → IsFaultOfDirectories f fault → ⊥) → HasSamples f (rectangle_of w.picture.rectangle) v → IsWindow f q v
 unfolding IsFaulty rectangle
 whole_window f Info a w v u painted clean samples = absurd (none-some (rectangle_of w.picture.rectangle) u.planned.rectangle_is)

@@ -25,35 +25,37 @@ use Rattle.tiff_dir.specs.Described.{AreLevels, grid_of, layout_of}
 use Rattle.tiff_dir.specs.Fault.{IsFaultOfDirectories}
 use Rattle.tiff_dir.specs.Faulty.{IsFaulty, IsFaultOfInfo, IsFaultOfWindow}
 use Rattle.tiff_dir.specs.Geo.{geo_ranges, IsGeoFault}
-use Rattle.tiff_dir.specs.Needs.{Extent, ends_past, extent_of_place}
+use Rattle.extents.specs.Extent.{Extent, ends_past}
+use Rattle.tiff_dir.specs.Needs.{extent_of_place}
 use Rattle.tiff_dir.specs.Query as queries
 use Rattle.tiff_dir.specs.Query.{array_ranges, joined_after, joins, is_refused, needs_of_query, rectangle, tile_ranges, tiles_in}
 use Rattle.tiff_dir.specs.Walk as walk
-use Rattle.tiff_dir.specs.Walk.{levels_of, extent_of_span, AreGeoPlaces, AreTyped, HasEnded, IsDescribed}
+use Rattle.extents.specs.Extent.{extent_of_span}
+use Rattle.tiff_dir.specs.Walk.{levels_of, AreGeoPlaces, AreTyped, HasEnded, IsDescribed}
 use Rattle.tile_plan.specs.declared.asked.Rectangle.{Rectangle}
-use Rattle.tile_mosaic.specs.declared.mosaic.Mosaic.{Mosaic}
+use Rattle.tile_plan.specs.declared.window_builder.WindowBuilder.{WindowBuilder}
 use Rattle.tile_plan.specs.declared.plan.Group.{Group}
 use Rattle.tile_plan.specs.Groups as groups
 use Rattle.tile_plan.specs.Groups.{with_tile, alone, grouped_after, grouped}
 use Rattle.tile_plan.specs.Levels.{rectangle_of, HasLevels, IsAsked, IsSmall}
 use Rattle.tile_plan.specs.Plan.{group_of, tiles_of, IsGroup, IsPlanned}
-use Rattle.tile_mosaic.specs.declared.arrays.Arrays.{Arrays}
-use Rattle.cog_reader.specs.declared.fields.Fields.{Fields}
-use Rattle.cog_reader.specs.declared.kept.Kept.{Kept}
-use Rattle.cog_reader.specs.declared.kept.Kept.TheVariants as kept
+use Rattle.tile_plan.specs.declared.arrays.Arrays.{Arrays}
+use Rattle.cog_reader.specs.declared.fields.GeoFields.{GeoFields}
+use Rattle.cog_reader.specs.declared.kept_arrays.KeptArrays.{KeptArrays}
+use Rattle.cog_reader.specs.declared.kept_arrays.KeptArrays.TheVariants as kept
 use Rattle.cog_reader.specs.declared.outcome.Outcome.{Outcome}
 use Rattle.cog_reader.specs.declared.outcome.Outcome.TheVariants as outcomes
 use Rattle.cog_reader.specs.declared.outcome.Window.{Window as Samples}
 use Rattle.cog_reader.specs.declared.state.State.{State}
-use Rattle.cog_reader.specs.declared.state.Step.{Step}
-use Rattle.cog_reader.specs.declared.state.Step.TheVariants.{Read, Answer}
-use Rattle.cog_reader.specs.declared.state.State.TheVariants.{Directories, Arrays as Reads, Tiles, Fields as Geo, Answered}
-use Rattle.cog_reader.specs.Fields.{present_in, IsReadOf, FieldsState}
-use Rattle.cog_reader.specs.Kept.{arrays_held, next_array, HasBoth, KeptAgrees}
-use Rattle.tile_mosaic.specs.Mosaic.{tile_extent, IsPlan, IsUnderway, MosaicState, AreArraysOf}
+use Rattle.cog_reader.specs.declared.state.ReaderStep.{ReaderStep}
+use Rattle.cog_reader.specs.declared.state.ReaderStep.TheVariants.{Read, Answer}
+use Rattle.cog_reader.specs.declared.state.State.TheVariants.{Directories, Arrays as Reads, Tiles, GeoFields as Geo, Answered}
+use Rattle.cog_reader.specs.GeoFields.{present_in, IsReadOf, FieldsState}
+use Rattle.cog_reader.specs.KeptArrays.{arrays_held, next_array, HasBoth, KeptAgrees}
+use Rattle.tile_plan.specs.WindowBuilder.{tile_extent, IsPlan, IsUnderway, WindowState, AreArraysOf}
 use Rattle.cog_reader.specs.Outcome.{IsTrueOf, IsWindowOf}
 use Rattle.cog_reader.specs.Reader.{outcome_in, own_given, IsClean, IsState, StateAgrees}
-use Rattle.cog_reader.specs.Step.{Becomes, IsBase, IsFair, IsStep}
+use Rattle.cog_reader.specs.ReaderStep.{Becomes, IsBase, IsFair, IsStep}
 use Rattle.cog_reader.proofs.FieldLemmas.{geo_ranges_are, few_bytes, some_bytes}
 use Rattle.cog_reader.proofs.ArrayLemmas.{ranges_are, array_some}
 
@@ -63,8 +65,8 @@ IsOver w = (f : List ℕ) → walk.WalkAgrees w f → walk.to_come w f ≡ []
 
 -- ---- a query that is done
 
-pub becomes_done : (complete : ℕ) (w : WalkState) (k : Kept) (q : Query) (old : State) (o : Outcome) → ((f : List ℕ) → IsBase f complete w k → StateAgrees f q k old → IsTrueOf f q o) → Becomes complete w k q old (Answered o)
-becomes_done complete w k q old o true_of = record {
+pub becomes_done : (file_length : ℕ) (w : WalkState) (k : KeptArrays) (q : Query) (old : State) (o : Outcome) → ((f : List ℕ) → IsBase f file_length w k → StateAgrees f q k old → IsTrueOf f q o) → Becomes file_length w k q old (Answered o)
+becomes_done file_length w k q old o true_of = record {
   sound = tt;
   same = true_of;
   come = λ f base here none. absurd (none-some o (sym none));
@@ -72,8 +74,8 @@ becomes_done complete w k q old o true_of = record {
   done = λ done. refl;
 }
 
-pub becomes_more : (complete : ℕ) (w : WalkState) (k : Kept) (q : Query) (a b c : State) → Becomes complete w k q a b → Becomes complete w k q b c → Becomes complete w k q a c
-becomes_more complete w k q a b c x y = record {
+pub becomes_more : (file_length : ℕ) (w : WalkState) (k : KeptArrays) (q : Query) (a b c : State) → Becomes file_length w k q a b → Becomes file_length w k q b c → Becomes file_length w k q a c
+becomes_more file_length w k q a b c x y = record {
   sound = y.sound;
   same = λ f base here. y.same f base (x.same f base here);
   come = λ f base here none. y.come f base (x.same f base here) none ∙ x.come f base here (undone (outcome_in b) refl none);
@@ -84,12 +86,12 @@ becomes_more complete w k q a b c x y = record {
   undone None is none = is
   undone (Some o) is none = absurd (false≢true (subst IsSome none (y.done (subst IsSome (sym is) refl))))
 
-pub becomes_same : (complete : ℕ) (w : WalkState) (k : Kept) (q : Query) (a : State) → IsState complete w k a → Becomes complete w k q a a
-becomes_same complete w k q a sound = record { sound = sound; same = λ f base here. here; come = λ f base here none. refl; steps = omega arith; done = λ done. done }
+pub becomes_same : (file_length : ℕ) (w : WalkState) (k : KeptArrays) (q : Query) (a : State) → IsState file_length w k a → Becomes file_length w k q a a
+becomes_same file_length w k q a sound = record { sound = sound; same = λ f base here. here; come = λ f base here none. refl; steps = omega arith; done = λ done. done }
 
-pub step_more : (complete : ℕ) (w : WalkState) (k : Kept) (q : Query) (a b : State) (s : Step) → Becomes complete w k q a b → IsStep complete w k q b s → IsStep complete w k q a s
-step_more complete w k q a b (Read new span) x y = (becomes_more complete w k q a b new x y.0, y.1)
-step_more complete w k q a b (Answer o) x y = becomes_more complete w k q a b (Answered o) x y
+pub step_more : (file_length : ℕ) (w : WalkState) (k : KeptArrays) (q : Query) (a b : State) (s : ReaderStep) → Becomes file_length w k q a b → IsStep file_length w k q b s → IsStep file_length w k q a s
+step_more file_length w k q a b (Read new span) x y = (becomes_more file_length w k q a b new x y.0, y.1)
+step_more file_length w k q a b (Answer o) x y = becomes_more file_length w k q a b (Answered o) x y
 
 -- ---- a level of the walk
 
@@ -138,7 +140,7 @@ needs_split f (Window x y wide tall p) r l asks good layout =
     rw (good, asks, parts.0, parts.1) refl
 
 -- the next array is one of the two
-which : (k : Kept) (n : ℕ) (l : Level) (p : Place) → next_array k n l ≡ Some p → (p ≡ l.offsets) ⊎ (p ≡ l.counts)
+which : (k : KeptArrays) (n : ℕ) (l : Level) (p : Place) → next_array k n l ≡ Some p → (p ≡ l.offsets) ⊎ (p ≡ l.counts)
 which kept.Nothing n l p is = inl (cc)
 which (kept.Offsets m o) n l p is = at (m == n) is where
   at : (b : Bool) → (if b then Some l.counts else Some l.offsets) ≡ Some p → (p ≡ l.offsets) ⊎ (p ≡ l.counts)
@@ -154,7 +156,7 @@ unfolding IsFaulty rectangle
 window_fault f Info r fault asks bad = absurd (none-some r asks)
 window_fault f (Window x y w h p) r fault asks bad = inr bad
 
-pub past_array : (f : List ℕ) (q : Query) (r : Rectangle) (l : Level) (k : Kept) (p : Place) → rectangle f q ≡ Some (rectangle_of r) → is_refused f q ≡ false → level_layout f r.level ≡ Some (layout_of l)
+pub past_array : (f : List ℕ) (q : Query) (r : Rectangle) (l : Level) (k : KeptArrays) (p : Place) → rectangle f q ≡ Some (rectangle_of r) → is_refused f q ≡ false → level_layout f r.level ≡ Some (layout_of l)
     → next_array k r.level l ≡ Some p → length f < p.first + p.len → IsFaulty f q PastEnd
 past_array f q r l k p asks good layout next past =
     let ends : ends_past f (extent_of_place p) ≡ true = lt-ltb (length f) (p.first + p.len) past in
@@ -190,18 +192,18 @@ few_size kind.Double = omega arith
 few_values : (count : ℕ) (k : Kind) → count ≤ 65536 → count * size_of k ≤ 1048576
 few_values count k few = (let h = mul-le-mul_left count (few_size k) in omega (arith, h, few))
 
-pub some_array : (k : Kept) (n : ℕ) (l : Level) (p : Place) → next_array k n l ≡ Some p → 0 < p.len
+pub some_array : (k : KeptArrays) (n : ℕ) (l : Level) (p : Place) → next_array k n l ≡ Some p → 0 < p.len
 some_array k n l p next = elim (which k n l p next) [
   | inl same ↦ (let some = (array_some l).0 in let len = ap (λ (y : Place). y.len) same in omega (arith, some, len))
   | inr same ↦ (let some = (array_some l).1 in let len = ap (λ (y : Place). y.len) same in omega (arith, some, len))
 ]
 
-pub fair_array : (complete : ℕ) (k : Kept) (n : ℕ) (l : Level) (p : Place) → next_array k n l ≡ Some p → (complete < p.first + p.len → ⊥) → IsFair complete (extent_of_place p)
-fair_array complete k n l p next inside = elim (which k n l p next) [
+pub fair_array : (file_length : ℕ) (k : KeptArrays) (n : ℕ) (l : Level) (p : Place) → next_array k n l ≡ Some p → (file_length < p.first + p.len → ⊥) → IsFair file_length (extent_of_place p)
+fair_array file_length k n l p next inside = elim (which k n l p next) [
   | inl same ↦ at l.offsets (array_some l).0 (let h = few_values l.offsets.count l.offsets.kind (let t = l.tiles in let e = l.offset_of_each in omega (arith, t, e)) in let e = l.lens.0 in omega (arith, h, e)) same
   | inr same ↦ at l.counts (array_some l).1 (let h = few_values l.counts.count l.counts.kind (let t = l.tiles in let e = l.count_of_each in omega (arith, t, e)) in let e = l.lens.1 in omega (arith, h, e)) same
 ] where
-  at : (x : Place) → 0 < x.len → x.len ≤ 1048576 → p ≡ x → IsFair complete (extent_of_place p)
+  at : (x : Place) → 0 < x.len → x.len ≤ 1048576 → p ≡ x → IsFair file_length (extent_of_place p)
   at x some few same =
       let len = ap (λ (y : Place). y.len) same in record {
         some = omega (arith, len, some);
@@ -232,9 +234,9 @@ filter_few p (x ∷ xs) = at (p x) (filter_few p xs) where
   at true h = omega (arith, h)
   at false h = omega (arith, h)
 
-pub groups_few : (complete : ℕ) (a : Arrays) (m : MosaicState) → IsPlan complete a m → length m.groups ≤ 65536
+pub groups_few : (file_length : ℕ) (a : Arrays) (m : WindowState) → IsPlan file_length a m → length m.groups ≤ 65536
 unfolding tiles_in
-groups_few complete a m plan =
+groups_few file_length a m plan =
     let l = a.level in
     let r = m.picture.rectangle in
     let ts = tiles_of l r in
@@ -244,16 +246,16 @@ groups_few complete a m plan =
     let total = l.tiles in
     omega (arith, same, few, tiles, length-range_with_len 0 (tile_total (grid_of l)), total)
 
-pub both_held : (k : Kept) (n : ℕ) (a : Arrays) → k ≡ kept.Both n a → arrays_held k n ≡ 2
+pub both_held : (k : KeptArrays) (n : ℕ) (a : Arrays) → k ≡ kept.Both n a → arrays_held k n ≡ 2
 both_held k n a is = ap (λ x. arrays_held x n) is ∙ (let same : (n == n) ≡ true = eq-eqb n n refl in rw same refl)
 
-pub has_both : (k : Kept) (n : ℕ) (a : Arrays) (P : Arrays → Type 0) → k ≡ kept.Both n a → P a → HasBoth k P
+pub has_both : (k : KeptArrays) (n : ℕ) (a : Arrays) (P : Arrays → Type 0) → k ≡ kept.Both n a → P a → HasBoth k P
 has_both k n a P is good = subst (λ x. HasBoth x P) (sym is) good
 
 -- the arrays of a level of the walk, of which the groups of a window are planned
-pub planned : (f : List ℕ) (q : Query) (complete : ℕ) (w : WalkState) (k : Kept) (r : Rectangle) (l : Level) (a : Arrays) → IsBase f complete w k → StateAgrees f q k (Reads r) → IsLevelOf w r.level l → k ≡ kept.Both r.level a → l ≡ a.level
-    → IsPlanned f q a.order a.level r complete a.offsets.items a.counts.items
-planned f q complete w k r l a base here of_level is same =
+pub planned : (f : List ℕ) (q : Query) (file_length : ℕ) (w : WalkState) (k : KeptArrays) (r : Rectangle) (l : Level) (a : Arrays) → IsBase f file_length w k → StateAgrees f q k (Reads r) → IsLevelOf w r.level l → k ≡ kept.Both r.level a → l ≡ a.level
+    → IsPlanned f q a.order a.level r file_length a.offsets.items a.counts.items
+planned f q file_length w k r l a base here of_level is same =
     let arrays : AreArraysOf f r.level a = subst (KeptAgrees f) is base.kept in record {
       size = base.size;
       order_is = arrays.order_is;
@@ -265,14 +267,14 @@ planned f q complete w k r l a base here of_level is same =
       good = here.1;
     }
 
--- what is said of a mosaic by its work
-pub becomes_tiles : (complete : ℕ) (w : WalkState) (k : Kept) (q : Query) (r : Rectangle) (l : Level) (a : Arrays) (m : Mosaic) → HasEnded w → IsLevelOf w r.level l → k ≡ kept.Both r.level a → l ≡ a.level → IsPlan complete a m → m.given ≡ 0
-    → ((f : List ℕ) → length f ≡ complete → IsPlanned f q a.order a.level r complete a.offsets.items a.counts.items → IsUnderway f q a m) → Becomes complete w k q (Reads r) (Tiles m)
-becomes_tiles complete w k q r l a m ended of_level is same plan none underway = record {
-  sound = (ended, has_both k r.level a (λ b. IsPlan complete b m) is plan);
-  same = λ f base here. (has_both k r.level a (λ b. IsUnderway f q b m) is (underway f base.size (planned f q complete w k r l a base here of_level is same)), of_level.clean f base.walked);
+-- what is said of a builder by its work
+pub becomes_tiles : (file_length : ℕ) (w : WalkState) (k : KeptArrays) (q : Query) (r : Rectangle) (l : Level) (a : Arrays) (m : WindowBuilder) → HasEnded w → IsLevelOf w r.level l → k ≡ kept.Both r.level a → l ≡ a.level → IsPlan file_length a m → m.given ≡ 0
+    → ((f : List ℕ) → length f ≡ file_length → IsPlanned f q a.order a.level r file_length a.offsets.items a.counts.items → IsUnderway f q a m) → Becomes file_length w k q (Reads r) (Tiles m)
+becomes_tiles file_length w k q r l a m ended of_level is same plan none underway = record {
+  sound = (ended, has_both k r.level a (λ b. IsPlan file_length b m) is plan);
+  same = λ f base here. (has_both k r.level a (λ b. IsUnderway f q b m) is (underway f base.size (planned f q file_length w k r l a base here of_level is same)), of_level.clean f base.walked);
   come = λ f base here undone. ap (λ n. drop n (needs_of_query f q)) (omega (arith, none, both_held k r.level a is));
-  steps = (let few = groups_few complete a m plan in let two = both_held k r.level a is in omega (arith, few, two, none));
+  steps = (let few = groups_few file_length a m plan in let two = both_held k r.level a is in omega (arith, few, two, none));
   done = λ done. absurd (false≢true done);
 }
 
@@ -291,18 +293,18 @@ geo_fault f fault bad = info_fault f fault (at fault bad) where
 
 -- ---- a group that can be given
 
-pub fair_group_at : (complete : ℕ) (a : Arrays) (m : MosaicState) (g : Group) (n : ℕ) → IsPlan complete a m → slice_get m.groups n ≡ Some g → IsFair complete (extent_of_span g.span)
-fair_group_at complete a m g n plan is =
-    let group = subst (λ h. IsGroup (tile_extent a) a.level complete (group_of h)) (get_or_from_slice_get m.groups n g g is) (plan.are.each n g (slice_get_within m.groups n g is)) in
+pub fair_group_at : (file_length : ℕ) (a : Arrays) (m : WindowState) (g : Group) (n : ℕ) → IsPlan file_length a m → slice_get m.groups n ≡ Some g → IsFair file_length (extent_of_span g.span)
+fair_group_at file_length a m g n plan is =
+    let group = subst (λ h. IsGroup (tile_extent a) a.level file_length (group_of h)) (get_or_from_slice_get m.groups n g g is) (plan.are.each n g (slice_get_within m.groups n g is)) in
     let up = g.span.ascending in record { some = omega (arith, up); inside = group.inside; few = group.few }
 
-pub fair_group : (complete : ℕ) (a : Arrays) (m : MosaicState) (g : Group) → IsPlan complete a m → slice_get m.groups m.given ≡ Some g → IsFair complete (extent_of_span g.span)
-fair_group complete a m g plan is = fair_group_at complete a m g m.given plan is
+pub fair_group : (file_length : ℕ) (a : Arrays) (m : WindowState) (g : Group) → IsPlan file_length a m → slice_get m.groups m.given ≡ Some g → IsFair file_length (extent_of_span g.span)
+fair_group file_length a m g plan is = fair_group_at file_length a m g m.given plan is
 
 -- ---- a geo field that is read
 
-pub fair_field : (complete : ℕ) (g : GeoPlaces) (i : ℕ) (p : Place) → AreTyped g → slice_get (present_in g) i ≡ Some p → (complete < p.first + p.len → ⊥) → IsFair complete (extent_of_place p)
-fair_field complete g i p typed is inside = record { some = some_bytes g typed i p is; inside = omega (arith, inside); few = (let few = few_bytes g typed i p is in omega (arith, few)) }
+pub fair_field : (file_length : ℕ) (g : GeoPlaces) (i : ℕ) (p : Place) → AreTyped g → slice_get (present_in g) i ≡ Some p → (file_length < p.first + p.len → ⊥) → IsFair file_length (extent_of_place p)
+fair_field file_length g i p typed is inside = record { some = some_bytes g typed i p is; inside = omega (arith, inside); few = (let few = few_bytes g typed i p is in omega (arith, few)) }
 
 pub past_field : (f : List ℕ) (r : FieldsState) (p : Place) → IsReadOf f r → slice_get (present_in r.places) r.given ≡ Some p → length f < p.first + p.len → IsFaulty f Info PastEnd
 unfolding needs_of_query
@@ -318,9 +320,9 @@ cons_few (Some p) ps n few = omega (arith, few)
 pub six_few : (g : GeoPlaces) → length (present_in g) ≤ 6
 six_few g = cons_few g.directory _ 5 (cons_few g.doubles _ 4 (cons_few g.ascii _ 3 (cons_few g.scale _ 2 (cons_few g.tiepoints _ 1 (cons_few g.transformation [] 0 (omega arith))))))
 
-pub becomes_fields : (complete : ℕ) (w : WalkState) (k : Kept) (g : GeoPlaces) (x : Fields) → HasEnded w → x ≡ record { places = g; given = 0; bytes = [] } → ((f : List ℕ) → walk.WalkAgrees w f → AreGeoPlaces f g) → IsOver w → Becomes complete w k Info Directories (Geo x)
+pub becomes_fields : (file_length : ℕ) (w : WalkState) (k : KeptArrays) (g : GeoPlaces) (x : GeoFields) → HasEnded w → x ≡ record { places = g; given = 0; bytes = [] } → ((f : List ℕ) → walk.WalkAgrees w f → AreGeoPlaces f g) → IsOver w → Becomes file_length w k Info Directories (Geo x)
 unfolding rectangle
-becomes_fields complete w k g x ended is places over = record {
+becomes_fields file_length w k g x ended is places over = record {
   sound = ended;
   same = λ f base here. (refl, subst (IsReadOf f) (sym is) (record { places = places f base.walked; bytes_are = refl; inside = refl }));
   come = λ f base here undone. ap (λ n. drop n (needs_of_query f Info)) (ap (λ (r : FieldsState). r.given) is) ∙ ap (λ l. l ++ needs_of_query f Info) (sym (over f base.walked));
@@ -334,8 +336,8 @@ pub if_ok : {A E : Type 0} (r : Result A E) (P Q : A → Type 0) → IfOk r P �
 if_ok (Ok a) P Q h more = more a h
 if_ok (Err e) P Q h more = h
 
-pub becomes_window : (complete : ℕ) (w : WalkState) (k : Kept) (q : Query) (ls : List Level) (r : Rectangle) → HasEnded w → ls ≡ levels_of w → IsAsked ls q r → ((f : List ℕ) → walk.WalkAgrees w f → HasLevels f ls) → IsOver w → Becomes complete w k q Directories (Reads r)
-becomes_window complete w k q ls r ended same asks levels over = record {
+pub becomes_window : (file_length : ℕ) (w : WalkState) (k : KeptArrays) (q : Query) (ls : List Level) (r : Rectangle) → HasEnded w → ls ≡ levels_of w → IsAsked ls q r → ((f : List ℕ) → walk.WalkAgrees w f → HasLevels f ls) → IsOver w → Becomes file_length w k q Directories (Reads r)
+becomes_window file_length w k q ls r ended same asks levels over = record {
   sound = (ended, subst (λ xs. IsSomeAnd (slice_get xs r.level) (λ l. IsSmall l r)) same asks.small);
   same = λ f base here. (asks.rectangle f (levels f base.walked), asks.good f (levels f base.walked));
   come = λ f base here undone.
@@ -355,11 +357,11 @@ unfolding IsFaulty
 directory_fault f Info fault bad = inl bad
 directory_fault f (Window x y w h p) fault bad = inl bad
 
-pub both_at : (k : Kept) (n : ℕ) (a : Arrays) (P : Arrays → Type 0) → k ≡ kept.Both n a → HasBoth k P → P a
+pub both_at : (k : KeptArrays) (n : ℕ) (a : Arrays) (P : Arrays → Type 0) → k ≡ kept.Both n a → HasBoth k P → P a
 both_at k n a P is good = subst (λ x. HasBoth x P) is good
 
 -- a window of which all groups were given
-pub becomes_window_done : (complete : ℕ) (w : WalkState) (k : Kept) (n : ℕ) (a : Arrays) (q : Query) (m : Mosaic) (v : Samples) → k ≡ kept.Both n a → m.given ≡ length m.groups
-    → ((f : List ℕ) (q : Query) → IsUnderway f q a m → m.given ≡ length m.groups → IsClean f → IsWindowOf f q v) → Becomes complete w k q (Tiles m) (Answered (outcomes.Window v))
-becomes_window_done complete w k n a q m v is all window =
-    becomes_done complete w k q (Tiles m) (outcomes.Window v) (λ f base here. window f q (both_at k n a (λ b. IsUnderway f q b m) is here.0) all here.1)
+pub becomes_window_done : (file_length : ℕ) (w : WalkState) (k : KeptArrays) (n : ℕ) (a : Arrays) (q : Query) (m : WindowBuilder) (v : Samples) → k ≡ kept.Both n a → m.given ≡ length m.groups
+    → ((f : List ℕ) (q : Query) → IsUnderway f q a m → m.given ≡ length m.groups → IsClean f → IsWindowOf f q v) → Becomes file_length w k q (Tiles m) (Answered (outcomes.Window v))
+becomes_window_done file_length w k n a q m v is all window =
+    becomes_done file_length w k q (Tiles m) (outcomes.Window v) (λ f base here. window f q (both_at k n a (λ b. IsUnderway f q b m) is here.0) all here.1)

@@ -8,28 +8,29 @@ use Rattle.std.proofs.lemmas.Option.{none-some, same_Some, slice_get-map, slice_
 use Rattle.tiff_dir.specs.declared.level.Level.{Level}
 use Rattle.tiff_dir.specs.declared.level.Place.{Place}
 use Rattle.tiff_dir.specs.declared.query.Query.{Query}
-use Rattle.tiff_dir.specs.declared.span.Span.{Span}
+use Rattle.extents.specs.declared.span.Span.{Span}
 use Rattle.tiff_dir.specs.File.{◌>>=◌}
 use Rattle.tiff_dir.specs.Geo.{geo_ranges}
 use Rattle.tiff_dir.specs.WalkState.{WalkState}
-use Rattle.tiff_dir.specs.Needs.{Extent, extent_of_place}
+use Rattle.extents.specs.Extent.{Extent}
+use Rattle.tiff_dir.specs.Needs.{extent_of_place}
 use Rattle.tiff_dir.specs.Query.{needs_of_query}
 use Rattle.tiff_dir.specs.Walk as walk
-use Rattle.tiff_dir.specs.Walk.{extent_of_span}
+use Rattle.extents.specs.Extent.{extent_of_span}
 use Rattle.tile_plan.specs.declared.asked.Rectangle.{Rectangle}
 use Rattle.tile_plan.specs.declared.plan.Group.{Group}
-use Rattle.cog_reader.specs.declared.fields.Fields.{Fields}
-use Rattle.tile_mosaic.specs.declared.arrays.Arrays.{Arrays}
-use Rattle.cog_reader.specs.declared.kept.Kept.{Kept}
-use Rattle.cog_reader.specs.declared.kept.Kept.TheVariants.{Both}
-use Rattle.tile_mosaic.specs.declared.mosaic.Mosaic.{Mosaic}
+use Rattle.cog_reader.specs.declared.fields.GeoFields.{GeoFields}
+use Rattle.tile_plan.specs.declared.arrays.Arrays.{Arrays}
+use Rattle.cog_reader.specs.declared.kept_arrays.KeptArrays.{KeptArrays}
+use Rattle.cog_reader.specs.declared.kept_arrays.KeptArrays.TheVariants.{Both}
+use Rattle.tile_plan.specs.declared.window_builder.WindowBuilder.{WindowBuilder}
 use Rattle.cog_reader.specs.declared.state.State.{State}
-use Rattle.cog_reader.specs.declared.state.State.TheVariants.{Directories, Arrays as Reads, Tiles, Fields as Geo}
-use Rattle.cog_reader.specs.Fields.{present_in}
-use Rattle.cog_reader.specs.Kept.{array_after, arrays_held, next_array, HasBoth}
-use Rattle.tile_mosaic.specs.Mosaic.{IsPlan, IsUnderway}
+use Rattle.cog_reader.specs.declared.state.State.TheVariants.{Directories, Arrays as Reads, Tiles, GeoFields as Geo}
+use Rattle.cog_reader.specs.GeoFields.{present_in}
+use Rattle.cog_reader.specs.KeptArrays.{array_after, arrays_held, next_array, HasBoth}
+use Rattle.tile_plan.specs.WindowBuilder.{IsPlan, IsUnderway}
 use Rattle.cog_reader.specs.Reader.{come_by, upcoming_by, wanted_by, StateAgrees}
-use Rattle.cog_reader.specs.Step.{ComesAt, ComesLater, ComesNext, IsBase, IsWantedBy}
+use Rattle.cog_reader.specs.ReaderStep.{ComesAt, ComesLater, ComesNext, IsBase, IsWantedBy}
 use Rattle.cog_reader.proofs.FieldLemmas.{geo_ranges_are}
 use Rattle.cog_reader.proofs.FirstLemmas.{first_array, first_field, first_of_directories, get_of_drop, some_both, tiles_wanted}
 use Rattle.cog_reader.proofs.GiveLemmas.{group_at}
@@ -38,12 +39,12 @@ use Rattle.cog_reader.proofs.StepLemmas.{fair_group_at, needs_split, IsLevelOf}
 
 -- ---- a group
 
-pub later_group : (complete : ℕ) (w : WalkState) (k : Kept) (m : Mosaic) (i : ℕ) (o : Option Span) → HasBoth k (λ a. IsPlan complete a m)
+pub later_group : (file_length : ℕ) (w : WalkState) (k : KeptArrays) (m : WindowBuilder) (i : ℕ) (o : Option Span) → HasBoth k (λ a. IsPlan file_length a m)
     → MatchOption o (slice_get m.groups (m.given + 1 + i) ≡ None) (λ span. IsSomeAnd (slice_get m.groups (m.given + 1 + i)) (λ g. g.span ≡ span))
-    → ComesLater complete w k (Tiles m) i o
-later_group complete w k m i None both is =
-    subst (λ x. IfSome x (λ r. complete < r.first + r.len)) (sym (ap (option_map (λ (g : Group). extent_of_span g.span)) is)) tt
-later_group complete w k m i (Some span) both is = at (slice_get m.groups (m.given + 1 + i)) refl is
+    → ComesLater file_length w k (Tiles m) i o
+later_group file_length w k m i None both is =
+    subst (λ x. IfSome x (λ r. file_length < r.first + r.len)) (sym (ap (option_map (λ (g : Group). extent_of_span g.span)) is)) tt
+later_group file_length w k m i (Some span) both is = at (slice_get m.groups (m.given + 1 + i)) refl is
   where
     come : (g : Group) → slice_get m.groups (m.given + 1 + i) ≡ Some g → (f : List ℕ) (q : Query) → StateAgrees f q k (Tiles m)
         → slice_get (come_by f w k q (Tiles m)) (i + 1) ≡ Some (extent_of_span g.span)
@@ -52,26 +53,26 @@ later_group complete w k m i (Some span) both is = at (slice_get m.groups (m.giv
         get_of_drop (needs_of_query f q) (2 + m.given) (i + 1) ∙ ap (slice_get (needs_of_query f q)) place
         ∙ some_both k (λ a. IsUnderway f q a m) (slice_get (needs_of_query f q) (2 + (m.given + 1 + i)) ≡ Some (extent_of_span g.span)) here.0 (λ a u. group_at f q a m g (m.given + 1 + i) u is)
 
-    at : (x : Option Group) → slice_get m.groups (m.given + 1 + i) ≡ x → IsSomeAnd x (λ g. g.span ≡ span) → ComesLater complete w k (Tiles m) i (Some span)
+    at : (x : Option Group) → slice_get m.groups (m.given + 1 + i) ≡ x → IsSomeAnd x (λ g. g.span ≡ span) → ComesLater file_length w k (Tiles m) i (Some span)
     at None is bad = absurd bad
     at (Some g) is same =
-        let inside : g.span.last < complete = some_both k (λ a. IsPlan complete a m) (g.span.last < complete) both (λ a plan.
-        let fair = fair_group_at complete a m g (m.given + 1 + i) plan is in
+        let inside : g.span.last < file_length = some_both k (λ a. IsPlan file_length a m) (g.span.last < file_length) both (λ a plan.
+        let fair = fair_group_at file_length a m g (m.given + 1 + i) plan is in
         let up = g.span.ascending in
         omega (arith, up, fair.inside)) in (
           ap (option_map (λ (g : Group). extent_of_span g.span)) is ∙ ap (λ s. Some (extent_of_span s)) same,
-          subst (λ (s : Span). s.last < complete) same inside,
+          subst (λ (s : Span). s.last < file_length) same inside,
           λ f q base here. come g is f q here ∙ ap (λ s. Some (extent_of_span s)) same,
         )
 
 -- ---- a place, whose bytes may end after the file
 
-placed : (complete : ℕ) (w : WalkState) (k : Kept) (state : State) (place : ℕ) (range : Option Extent) (p : Place) (o : Option Span) → range ≡ Some (extent_of_place p)
-    → ((f : List ℕ) (q : Query) → IsBase f complete w k → StateAgrees f q k state → slice_get (come_by f w k q state) place ≡ Some (extent_of_place p))
-    → MatchOption o (complete < p.first + p.len) (λ span. (extent_of_span span ≡ extent_of_place p) × (p.first + p.len ≤ complete))
-    → ComesAt complete w k state place range o
-placed complete w k state place range p None is come past = subst (λ x. IfSome x (λ r. complete < r.first + r.len)) (sym is) past
-placed complete w k state place range p (Some span) is come within =
+placed : (file_length : ℕ) (w : WalkState) (k : KeptArrays) (state : State) (place : ℕ) (range : Option Extent) (p : Place) (o : Option Span) → range ≡ Some (extent_of_place p)
+    → ((f : List ℕ) (q : Query) → IsBase f file_length w k → StateAgrees f q k state → slice_get (come_by f w k q state) place ≡ Some (extent_of_place p))
+    → MatchOption o (file_length < p.first + p.len) (λ span. (extent_of_span span ≡ extent_of_place p) × (p.first + p.len ≤ file_length))
+    → ComesAt file_length w k state place range o
+placed file_length w k state place range p None is come past = subst (λ x. IfSome x (λ r. file_length < r.first + r.len)) (sym is) past
+placed file_length w k state place range p (Some span) is come within =
     let up = span.ascending in
     let first = ap (λ (r : Extent). r.first) within.0 in
     let len = ap (λ (r : Extent). r.len) within.0 in
@@ -81,21 +82,21 @@ placed complete w k state place range p (Some span) is come within =
       λ f q base here. come f q base here ∙ ap Some (sym within.0),
     )
 
-none_placed : (complete : ℕ) (w : WalkState) (k : Kept) (state : State) (place : ℕ) (range : Option Extent) → range ≡ None → ComesAt complete w k state place range None
-none_placed complete w k state place range none = subst (λ x. IfSome x (λ r. complete < r.first + r.len)) (sym none) tt
+none_placed : (file_length : ℕ) (w : WalkState) (k : KeptArrays) (state : State) (place : ℕ) (range : Option Extent) → range ≡ None → ComesAt file_length w k state place range None
+none_placed file_length w k state place range none = subst (λ x. IfSome x (λ r. file_length < r.first + r.len)) (sym none) tt
 
 -- ---- a geo field
 
-pub no_later_field : (complete : ℕ) (w : WalkState) (k : Kept) (x : Fields) (i : ℕ) → slice_get (present_in x.places) (x.given + 1 + i) ≡ None → ComesLater complete w k (Geo x) i None
-no_later_field complete w k x i none = none_placed complete w k (Geo x) (i + 1) (upcoming_by w k (Geo x) i) (ap (option_map extent_of_place) none)
+pub no_later_field : (file_length : ℕ) (w : WalkState) (k : KeptArrays) (x : GeoFields) (i : ℕ) → slice_get (present_in x.places) (x.given + 1 + i) ≡ None → ComesLater file_length w k (Geo x) i None
+no_later_field file_length w k x i none = none_placed file_length w k (Geo x) (i + 1) (upcoming_by w k (Geo x) i) (ap (option_map extent_of_place) none)
 
-pub later_field : (complete : ℕ) (w : WalkState) (k : Kept) (x : Fields) (i : ℕ) (p : Place) (o : Option Span) → slice_get (present_in x.places) (x.given + 1 + i) ≡ Some p
-    → MatchOption o (complete < p.first + p.len) (λ span. (extent_of_span span ≡ extent_of_place p) × (p.first + p.len ≤ complete))
-    → ComesLater complete w k (Geo x) i o
+pub later_field : (file_length : ℕ) (w : WalkState) (k : KeptArrays) (x : GeoFields) (i : ℕ) (p : Place) (o : Option Span) → slice_get (present_in x.places) (x.given + 1 + i) ≡ Some p
+    → MatchOption o (file_length < p.first + p.len) (λ span. (extent_of_span span ≡ extent_of_place p) × (p.first + p.len ≤ file_length))
+    → ComesLater file_length w k (Geo x) i o
 unfolding needs_of_query
-later_field complete w k x i p o is placed_at = placed complete w k (Geo x) (i + 1) (upcoming_by w k (Geo x) i) p o (ap (option_map extent_of_place) is) come placed_at
+later_field file_length w k x i p o is placed_at = placed file_length w k (Geo x) (i + 1) (upcoming_by w k (Geo x) i) p o (ap (option_map extent_of_place) is) come placed_at
   where
-    come : (f : List ℕ) (q : Query) → IsBase f complete w k → StateAgrees f q k (Geo x) → slice_get (come_by f w k q (Geo x)) (i + 1) ≡ Some (extent_of_place p)
+    come : (f : List ℕ) (q : Query) → IsBase f file_length w k → StateAgrees f q k (Geo x) → slice_get (come_by f w k q (Geo x)) (i + 1) ≡ Some (extent_of_place p)
     come f q base here =
         let needs : needs_of_query f q ≡ geo_ranges f = ap (needs_of_query f) here.0 in
         let place : x.given + (i + 1) ≡ x.given + 1 + i = omega arith in
@@ -106,23 +107,23 @@ later_field complete w k x i p o is placed_at = placed complete w k (Geo x) (i +
 -- ---- an array
 
 -- what is read after the next array are the counts, where none is held
-after_is : (k : Kept) (n : ℕ) (l : Level) (p : Place) → array_after k n l ≡ Some p → (arrays_held k n ≡ 0) × (p ≡ l.counts)
+after_is : (k : KeptArrays) (n : ℕ) (l : Level) (p : Place) → array_after k n l ≡ Some p → (arrays_held k n ≡ 0) × (p ≡ l.counts)
 after_is k n l p is = elim (eqb_tells (arrays_held k n) 0) [
   | inl e ↦ (e.1, sym (same_Some l.counts p (sym (ap (λ t. if t then Some l.counts else None) e.0) ∙ is)))
   | inr e ↦ absurd (none-some p (sym (ap (λ t. if t then Some l.counts else None) e.0) ∙ is))
 ]
 
-pub no_later_array : (complete : ℕ) (w : WalkState) (k : Kept) (r : Rectangle) (l : Level) → IsLevelOf w r.level l → array_after k r.level l ≡ None → ComesLater complete w k (Reads r) 0 None
-no_later_array complete w k r l of_level none =
-    none_placed complete w k (Reads r) 1 (upcoming_by w k (Reads r) 0) (ap (λ o. o >>= λ l. option_map extent_of_place (array_after k r.level l)) of_level.there ∙ ap (option_map extent_of_place) none)
+pub no_later_array : (file_length : ℕ) (w : WalkState) (k : KeptArrays) (r : Rectangle) (l : Level) → IsLevelOf w r.level l → array_after k r.level l ≡ None → ComesLater file_length w k (Reads r) 0 None
+no_later_array file_length w k r l of_level none =
+    none_placed file_length w k (Reads r) 1 (upcoming_by w k (Reads r) 0) (ap (λ o. o >>= λ l. option_map extent_of_place (array_after k r.level l)) of_level.there ∙ ap (option_map extent_of_place) none)
 
-pub later_array : (complete : ℕ) (w : WalkState) (k : Kept) (r : Rectangle) (l : Level) (p : Place) (o : Option Span) → IsLevelOf w r.level l → array_after k r.level l ≡ Some p
-    → MatchOption o (complete < p.first + p.len) (λ span. (extent_of_span span ≡ extent_of_place p) × (p.first + p.len ≤ complete))
-    → ComesLater complete w k (Reads r) 0 o
-later_array complete w k r l p o of_level is placed_at =
-    placed complete w k (Reads r) 1 (upcoming_by w k (Reads r) 0) p o (ap (λ o. o >>= λ l. option_map extent_of_place (array_after k r.level l)) of_level.there ∙ ap (option_map extent_of_place) is) come placed_at
+pub later_array : (file_length : ℕ) (w : WalkState) (k : KeptArrays) (r : Rectangle) (l : Level) (p : Place) (o : Option Span) → IsLevelOf w r.level l → array_after k r.level l ≡ Some p
+    → MatchOption o (file_length < p.first + p.len) (λ span. (extent_of_span span ≡ extent_of_place p) × (p.first + p.len ≤ file_length))
+    → ComesLater file_length w k (Reads r) 0 o
+later_array file_length w k r l p o of_level is placed_at =
+    placed file_length w k (Reads r) 1 (upcoming_by w k (Reads r) 0) p o (ap (λ o. o >>= λ l. option_map extent_of_place (array_after k r.level l)) of_level.there ∙ ap (option_map extent_of_place) is) come placed_at
   where
-    come : (f : List ℕ) (q : Query) → IsBase f complete w k → StateAgrees f q k (Reads r) → slice_get (come_by f w k q (Reads r)) (0 + 1) ≡ Some (extent_of_place p)
+    come : (f : List ℕ) (q : Query) → IsBase f file_length w k → StateAgrees f q k (Reads r) → slice_get (come_by f w k q (Reads r)) (0 + 1) ≡ Some (extent_of_place p)
     come f q base here =
         let after = after_is k r.level l p is in
         let split = needs_split f q r l here.0 here.1 (of_level.layout f base.walked) in
@@ -130,7 +131,7 @@ later_array complete w k r l p o of_level is placed_at =
         ∙ ap (λ n. slice_get (needs_of_query f q) (n + 1)) after.0
         ∙ ap (λ xs. slice_get xs 1) split ∙ ap (λ x. Some (extent_of_place x)) (sym after.1)
 
-pub some_later : (k : Kept) (n : ℕ) (l : Level) (p : Place) → array_after k n l ≡ Some p → 0 < p.len
+pub some_later : (k : KeptArrays) (n : ℕ) (l : Level) (p : Place) → array_after k n l ≡ Some p → 0 < p.len
 some_later k n l p is =
     let some = (array_some l).1 in
     let len = ap (λ (y : Place). y.len) (after_is k n l p is).1 in
@@ -139,22 +140,22 @@ some_later k n l p is =
 -- ---- what is wanted next
 
 -- the directories
-pub next_directories : (complete : ℕ) (w : WalkState) (k : Kept) (o : Option Span) → walk.Wants w complete o → ((f : List ℕ) → walk.WalkAgrees w f → slice_get (walk.to_come w f) 0 ≡ walk.wanted w)
-    → ComesNext complete w k Directories o
-next_directories complete w k None ended first = none_placed complete w k Directories 0 (walk.wanted w) ended
-next_directories complete w k (Some span) wants first =
-    (wants.0, wants.1, λ f q base here. first_of_directories complete w k (extent_of_span span) wants.0 first f q base)
+pub next_directories : (file_length : ℕ) (w : WalkState) (k : KeptArrays) (o : Option Span) → walk.Wants w file_length o → ((f : List ℕ) → walk.WalkAgrees w f → slice_get (walk.to_come w f) 0 ≡ walk.wanted w)
+    → ComesNext file_length w k Directories o
+next_directories file_length w k None ended first = none_placed file_length w k Directories 0 (walk.wanted w) ended
+next_directories file_length w k (Some span) wants first =
+    (wants.0, wants.1, λ f q base here. first_of_directories file_length w k (extent_of_span span) wants.0 first f q base)
 
-pub past_directories : (complete : ℕ) (w : WalkState) (k : Kept) → IsSomeAnd (walk.wanted w) (λ r. complete < r.first + r.len) → ComesNext complete w k Directories None
-past_directories complete w k past = at (walk.wanted w) past where
-  at : (o : Option Extent) → IsSomeAnd o (λ r. complete < r.first + r.len) → IfSome o (λ r. complete < r.first + r.len)
+pub past_directories : (file_length : ℕ) (w : WalkState) (k : KeptArrays) → IsSomeAnd (walk.wanted w) (λ r. file_length < r.first + r.len) → ComesNext file_length w k Directories None
+past_directories file_length w k past = at (walk.wanted w) past where
+  at : (o : Option Extent) → IsSomeAnd o (λ r. file_length < r.first + r.len) → IfSome o (λ r. file_length < r.first + r.len)
   at None bad = tt
   at (Some r) past = past
 
 -- an array
-pub no_next_array : (complete : ℕ) (w : WalkState) (k : Kept) (r : Rectangle) (l : Level) (a : Arrays) → IsLevelOf w r.level l → k ≡ Both r.level a → ComesNext complete w k (Reads r) None
-no_next_array complete w k r l a of_level both =
-    none_placed complete w k (Reads r) 0 (wanted_by w k (Reads r))
+pub no_next_array : (file_length : ℕ) (w : WalkState) (k : KeptArrays) (r : Rectangle) (l : Level) (a : Arrays) → IsLevelOf w r.level l → k ≡ Both r.level a → ComesNext file_length w k (Reads r) None
+no_next_array file_length w k r l a of_level both =
+    none_placed file_length w k (Reads r) 0 (wanted_by w k (Reads r))
     (ap (λ o. o >>= λ l. option_map extent_of_place (next_array k r.level l)) of_level.there ∙ ap (λ k. option_map extent_of_place (next_array k r.level l)) both ∙ same)
   where
     same : option_map extent_of_place (next_array (Both r.level a) r.level l) ≡ None
@@ -163,28 +164,28 @@ no_next_array complete w k r l a of_level both =
       | inr e ↦ absurd (e.1 refl)
     ]
 
-pub next_array_comes : (complete : ℕ) (w : WalkState) (k : Kept) (r : Rectangle) (l : Level) (p : Place) (o : Option Span) → IsLevelOf w r.level l → next_array k r.level l ≡ Some p
-    → MatchOption o (complete < p.first + p.len) (λ span. (extent_of_span span ≡ extent_of_place p) × (p.first + p.len ≤ complete))
-    → ComesNext complete w k (Reads r) o
-next_array_comes complete w k r l p o of_level is placed_at =
-    placed complete w k (Reads r) 0 (wanted_by w k (Reads r)) p o (ap (λ o. o >>= λ l. option_map extent_of_place (next_array k r.level l)) of_level.there ∙ ap (option_map extent_of_place) is)
-    (λ f q base here. first_array complete w k r l p of_level is f q base here) placed_at
+pub next_array_comes : (file_length : ℕ) (w : WalkState) (k : KeptArrays) (r : Rectangle) (l : Level) (p : Place) (o : Option Span) → IsLevelOf w r.level l → next_array k r.level l ≡ Some p
+    → MatchOption o (file_length < p.first + p.len) (λ span. (extent_of_span span ≡ extent_of_place p) × (p.first + p.len ≤ file_length))
+    → ComesNext file_length w k (Reads r) o
+next_array_comes file_length w k r l p o of_level is placed_at =
+    placed file_length w k (Reads r) 0 (wanted_by w k (Reads r)) p o (ap (λ o. o >>= λ l. option_map extent_of_place (next_array k r.level l)) of_level.there ∙ ap (option_map extent_of_place) is)
+    (λ f q base here. first_array file_length w k r l p of_level is f q base here) placed_at
 
 -- a group
-pub next_group : (complete : ℕ) (w : WalkState) (k : Kept) (m : Mosaic) (o : Option Span) → HasBoth k (λ a. IsPlan complete a m)
+pub next_group : (file_length : ℕ) (w : WalkState) (k : KeptArrays) (m : WindowBuilder) (o : Option Span) → HasBoth k (λ a. IsPlan file_length a m)
     → MatchOption o (m.given ≡ length m.groups) (λ span. IsSomeAnd (slice_get m.groups m.given) (λ g. g.span ≡ span))
-    → ComesNext complete w k (Tiles m) o
-next_group complete w k m None both end =
-    none_placed complete w k (Tiles m) 0 (wanted_by w k (Tiles m)) (ap (option_map (λ (g : Group). extent_of_span g.span)) (slice_get_past m.groups m.given (omega (arith, end))))
-next_group complete w k m (Some span) both is =
-    let wants : IsWantedBy complete w k (Tiles m) (extent_of_span span) =
-    some_both k (λ a. IsPlan complete a m) (IsWantedBy complete w k (Tiles m) (extent_of_span span)) both (λ a plan. tiles_wanted complete w k a m span plan is) in
+    → ComesNext file_length w k (Tiles m) o
+next_group file_length w k m None both end =
+    none_placed file_length w k (Tiles m) 0 (wanted_by w k (Tiles m)) (ap (option_map (λ (g : Group). extent_of_span g.span)) (slice_get_past m.groups m.given (omega (arith, end))))
+next_group file_length w k m (Some span) both is =
+    let wants : IsWantedBy file_length w k (Tiles m) (extent_of_span span) =
+    some_both k (λ a. IsPlan file_length a m) (IsWantedBy file_length w k (Tiles m) (extent_of_span span)) both (λ a plan. tiles_wanted file_length w k a m span plan is) in
     let up = span.ascending in
     (wants.is, omega (arith, up, wants.fair.inside), wants.first)
 
 -- a geo field
-pub next_field : (complete : ℕ) (w : WalkState) (k : Kept) (x : Fields) (p : Place) (o : Option Span) → slice_get (present_in x.places) x.given ≡ Some p
-    → MatchOption o (complete < p.first + p.len) (λ span. (extent_of_span span ≡ extent_of_place p) × (p.first + p.len ≤ complete))
-    → ComesNext complete w k (Geo x) o
-next_field complete w k x p o is placed_at =
-    placed complete w k (Geo x) 0 (wanted_by w k (Geo x)) p o (ap (option_map extent_of_place) is) (λ f q base here. first_field complete w k x p is f q here) placed_at
+pub next_field : (file_length : ℕ) (w : WalkState) (k : KeptArrays) (x : GeoFields) (p : Place) (o : Option Span) → slice_get (present_in x.places) x.given ≡ Some p
+    → MatchOption o (file_length < p.first + p.len) (λ span. (extent_of_span span ≡ extent_of_place p) × (p.first + p.len ≤ file_length))
+    → ComesNext file_length w k (Geo x) o
+next_field file_length w k x p o is placed_at =
+    placed file_length w k (Geo x) 0 (wanted_by w k (Geo x)) p o (ap (option_map extent_of_place) is) (λ f q base here. first_field file_length w k x p is f q here) placed_at

@@ -5,14 +5,15 @@ use Rattle.tiff_dir.specs.declared.fault.FileFault.{FileFault}
 use Rattle.tiff_dir.specs.Fault.{IsFaultOfDirectories}
 use Rattle.tiff_dir.specs.Faulty.{IsFaulty}
 use Rattle.tiff_dir.specs.WalkState.{WalkState}
-use Rattle.tiff_dir.specs.Needs.{Extent, bytes_in, IsEndOf}
+use Rattle.extents.specs.Extent.{Extent, bytes_in}
+use Rattle.tiff_dir.specs.Needs.{IsEndOf}
 use Rattle.tiff_dir.specs.Walk as walk
-use Rattle.cog_reader.specs.declared.kept.Kept.{Kept}
+use Rattle.cog_reader.specs.declared.kept_arrays.KeptArrays.{KeptArrays}
 use Rattle.cog_reader.specs.declared.state.State.{State}
-use Rattle.cog_reader.specs.Kept.{IsKeptOf}
+use Rattle.cog_reader.specs.KeptArrays.{IsKeptOf}
 use Rattle.cog_reader.specs.Reader.{come_by, outcome_in, steps_by, unread_by, wanted_by, AreOfOneLevel, IsState, StateAgrees}
-use Rattle.cog_reader.specs.Step.{IsBase}
-use Rattle.tile_mosaic.specs.Unpacked.{KeptTiles, AreTilesOf}
+use Rattle.cog_reader.specs.ReaderStep.{IsBase}
+use Rattle.tile_plan.specs.TileCache.{KeptTiles, AreTilesOf}
 
 -- the bytes lead a walk on, after which one range less is to come
 pub record AcceptsDirectoryRange (bytes : List ℕ) (old new : WalkState) : Type 0 where
@@ -31,7 +32,7 @@ AcceptsDirectories bytes old new (Some fault) =
 -- a walk, the arrays and the tiles that are kept, and what is done
 pub record Snapshot : Type 0 where
   pub walk : WalkState
-  pub kept : Kept
+  pub kept : KeptArrays
   pub tiles : KeptTiles
   pub state : State
 
@@ -55,40 +56,40 @@ abbrev pub AreWantedBytes : List ℕ → Snapshot → List ℕ → Type 0
 AreWantedBytes f s bytes = IsSomeAnd (wanted_in s) (λ r. bytes ≡ bytes_in f r)
 
 -- The bytes lead from one state to another, which wants one range less.
-pub record Advances (complete : ℕ) (bytes : List ℕ) (old new : Snapshot) : Type 0 where
+pub record Advances (file_length : ℕ) (bytes : List ℕ) (old new : Snapshot) : Type 0 where
   pub kept : IsKeptOf new.walk new.kept
-  pub state : IsState complete new.walk new.kept new.state
-  pub same : (f : List ℕ) (q : Query) → IsBase f complete old.walk old.kept → StateAgrees f q old.kept old.state → AreWantedBytes f old bytes
-      → AreTilesOf f old.tiles → IsBase f complete new.walk new.kept × StateAgrees f q new.kept new.state × AreTilesOf f new.tiles
-  pub come : (f : List ℕ) (q : Query) → IsBase f complete old.walk old.kept → StateAgrees f q old.kept old.state
+  pub state : IsState file_length new.walk new.kept new.state
+  pub same : (f : List ℕ) (q : Query) → IsBase f file_length old.walk old.kept → StateAgrees f q old.kept old.state → AreWantedBytes f old bytes
+      → AreTilesOf f old.tiles → IsBase f file_length new.walk new.kept × StateAgrees f q new.kept new.state × AreTilesOf f new.tiles
+  pub come : (f : List ℕ) (q : Query) → IsBase f file_length old.walk old.kept → StateAgrees f q old.kept old.state
       → IsSomeAnd (wanted_in old) (λ r. come_in f q old ≡ r ∷ come_in f q new)
-  pub held : (f : List ℕ) (q : Query) → IsBase f complete old.walk old.kept → StateAgrees f q old.kept old.state → KeepsHeld f q old new
+  pub held : (f : List ℕ) (q : Query) → IsBase f file_length old.walk old.kept → StateAgrees f q old.kept old.state → KeepsHeld f q old new
   pub most : new.tiles.most ≡ old.tiles.most
   pub steps : steps_by new.walk new.kept new.state < steps_by old.walk old.kept old.state
 
 -- the bytes tell a fault, which stands in the file for the query; the walk and the arrays are as they were
-pub record TellsFault (complete : ℕ) (bytes : List ℕ) (old new : Snapshot) (fault : FileFault) : Type 0 where
+pub record TellsFault (file_length : ℕ) (bytes : List ℕ) (old new : Snapshot) (fault : FileFault) : Type 0 where
   pub walk : new.walk ≡ old.walk
   pub kept : new.kept ≡ old.kept
-  pub stands : (f : List ℕ) (q : Query) → IsBase f complete old.walk old.kept → StateAgrees f q old.kept old.state
+  pub stands : (f : List ℕ) (q : Query) → IsBase f file_length old.walk old.kept → StateAgrees f q old.kept old.state
       → AreWantedBytes f old bytes → IsFaulty f q fault
-  pub tiles : (f : List ℕ) (q : Query) → IsBase f complete old.walk old.kept → StateAgrees f q old.kept old.state
+  pub tiles : (f : List ℕ) (q : Query) → IsBase f file_length old.walk old.kept → StateAgrees f q old.kept old.state
       → AreWantedBytes f old bytes → AreTilesOf f old.tiles → AreTilesOf f new.tiles
   pub most : new.tiles.most ≡ old.tiles.most
 
 abbrev pub AcceptsRange : ℕ → List ℕ → Snapshot → Snapshot → Option FileFault → Type 0
-AcceptsRange complete bytes old new None = Advances complete bytes old new
-AcceptsRange complete bytes old new (Some fault) = TellsFault complete bytes old new fault
+AcceptsRange file_length bytes old new None = Advances file_length bytes old new
+AcceptsRange file_length bytes old new (Some fault) = TellsFault file_length bytes old new fault
 
 -- The bytes that are wanted lead a query from one state to another: one range less is to come, or none, being done.
-pub record Gives (complete : ℕ) (bytes : List ℕ) (q : Query) (old new : Snapshot) : Type 0 where
+pub record Gives (file_length : ℕ) (bytes : List ℕ) (q : Query) (old new : Snapshot) : Type 0 where
   pub kept : IsKeptOf new.walk new.kept
-  pub state : IsState complete new.walk new.kept new.state
-  pub same : (f : List ℕ) → IsBase f complete old.walk old.kept → StateAgrees f q old.kept old.state → AreWantedBytes f old bytes
-      → AreTilesOf f old.tiles → IsBase f complete new.walk new.kept × StateAgrees f q new.kept new.state × AreTilesOf f new.tiles
-  pub come : (f : List ℕ) → IsBase f complete old.walk old.kept → StateAgrees f q old.kept old.state
+  pub state : IsState file_length new.walk new.kept new.state
+  pub same : (f : List ℕ) → IsBase f file_length old.walk old.kept → StateAgrees f q old.kept old.state → AreWantedBytes f old bytes
+      → AreTilesOf f old.tiles → IsBase f file_length new.walk new.kept × StateAgrees f q new.kept new.state × AreTilesOf f new.tiles
+  pub come : (f : List ℕ) → IsBase f file_length old.walk old.kept → StateAgrees f q old.kept old.state
       → (IsSome (outcome_in new.state) × (come_in f q new ≡ []))
       ⊎ IsSomeAnd (wanted_in old) (λ r. come_in f q old ≡ r ∷ come_in f q new)
-  pub held : (f : List ℕ) → IsBase f complete old.walk old.kept → StateAgrees f q old.kept old.state → KeepsHeld f q old new
+  pub held : (f : List ℕ) → IsBase f file_length old.walk old.kept → StateAgrees f q old.kept old.state → KeepsHeld f q old new
   pub most : new.tiles.most ≡ old.tiles.most
   pub steps : steps_by new.walk new.kept new.state < steps_by old.walk old.kept old.state

@@ -1,7 +1,9 @@
-pub mod Fields
+pub mod GeoFields
 pub mod Give
-pub mod Kept
+pub mod KeptArrays
 pub mod NextArray
 pub mod Outcome
 pub mod Reader
-pub mod Step
+pub mod ReaderStep
+pub mod Going
+pub mod Early

@@ -15,15 +15,15 @@ use Rattle.tiff_dir.specs.Level.{level_directories, level_value}
 use Rattle.tiff_dir.specs.Needs.{extent_of_place}
 use Rattle.tiff_dir.specs.Profile.{sample_bytes}
 use Rattle.tiff_dir.specs.Query.{Rectangle, rectangle}
-use Rattle.tiff_dir.specs.Walk.{bytes_in}
+use Rattle.extents.specs.Extent.{bytes_in}
 use Rattle.geokeys.specs.Doubles.{doubles_in}
 use Rattle.geokeys.specs.Keys.{AreKeys}
 use Rattle.cog_reader.specs.declared.outcome.Info.{Info}
 use Rattle.cog_reader.specs.declared.outcome.Outcome.{Outcome}
 use Rattle.cog_reader.specs.declared.outcome.Outcome.TheVariants as outcome
 use Rattle.cog_reader.specs.declared.outcome.Window.{Window}
-use Rattle.cog_reader.specs.Fields.{geo_bytes}
-use Rattle.tile_mosaic.specs.Samples.{samples_in}
+use Rattle.cog_reader.specs.GeoFields.{geo_bytes}
+use Rattle.tile_plan.specs.Samples.{samples_in}
 
 -- the width and the length of a level
 abbrev pub level_sides : Level → ℕ × ℕ

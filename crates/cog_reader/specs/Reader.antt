@@ -4,50 +4,52 @@ use Rattle.std.specs.Option.{option_map, option_map_or}
 use Rattle.tiff_dir.specs.declared.level.Compression.{Compression}
 use Rattle.tiff_dir.specs.declared.query.Query.{Query}
 use Rattle.tiff_dir.specs.declared.query.Query.TheVariants as query
-use Rattle.tiff_dir.specs.declared.span.Span.{Span}
+use Rattle.extents.specs.declared.span.Span.{Span}
 use Rattle.tiff_dir.specs.declared.fault.FileFault.{FileFault}
 use Rattle.tiff_dir.specs.Fault.{IsFaultOfDirectories}
 use Rattle.tiff_dir.specs.File.{◌>>=◌}
 use Rattle.tiff_dir.specs.WalkState.{WalkState}
-use Rattle.tiff_dir.specs.declared.limits.TheConstants.{MAX_RANGE_BYTES}
-use Rattle.tiff_dir.specs.Needs.{Extent, extent_of_place, IsEndOf}
+use Rattle.extents.specs.declared.limits.TheConstants.{MAX_RANGE_BYTES}
+use Rattle.extents.specs.Extent.{Extent}
+use Rattle.tiff_dir.specs.Needs.{extent_of_place, IsEndOf}
 use Rattle.tiff_dir.specs.Query.{needs_of_query, rectangle, is_refused}
 use Rattle.tiff_dir.specs.Walk as walk
-use Rattle.tiff_dir.specs.Walk.{HasEnded, bytes_in, given_of, levels_of, extent_of_span}
+use Rattle.extents.specs.Extent.{bytes_in, extent_of_span}
+use Rattle.tiff_dir.specs.Walk.{HasEnded, given_of, levels_of}
 use Rattle.tile_plan.specs.declared.plan.Group.{Group}
 use Rattle.tile_plan.specs.Levels.{IsSmall, rectangle_of}
-use Rattle.cog_reader.specs.declared.kept.Kept.{Kept}
-use Rattle.cog_reader.specs.declared.kept.Kept.TheVariants.{Both}
+use Rattle.cog_reader.specs.declared.kept_arrays.KeptArrays.{KeptArrays}
+use Rattle.cog_reader.specs.declared.kept_arrays.KeptArrays.TheVariants.{Both}
 use Rattle.cog_reader.specs.declared.outcome.Outcome.{Outcome}
 use Rattle.cog_reader.specs.declared.state.PendingQuery.{PendingQuery}
 use Rattle.cog_reader.specs.declared.state.State.{State}
-use Rattle.cog_reader.specs.declared.state.State.TheVariants.{Directories, Arrays as Reads, Tiles, Fields, Answered}
-use Rattle.cog_reader.specs.Fields.{present_in, IsReadOf}
-use Rattle.cog_reader.specs.Kept.{array_after, arrays_held, next_array, HasBoth, IsKeptOf, KeptAgrees}
-use Rattle.tile_mosaic.specs.Mosaic.{HasPlan, IsGroupLen, IsPlan, IsUnderway}
+use Rattle.cog_reader.specs.declared.state.State.TheVariants.{Directories, Arrays as Reads, Tiles, GeoFields, Answered}
+use Rattle.cog_reader.specs.GeoFields.{present_in, IsReadOf}
+use Rattle.cog_reader.specs.KeptArrays.{array_after, arrays_held, next_array, HasBoth, IsKeptOf, KeptAgrees}
+use Rattle.tile_plan.specs.WindowBuilder.{HasPlan, IsGroupLen, IsPlan, IsUnderway}
 use Rattle.cog_reader.specs.Outcome.{IsTrueOf}
-use Rattle.tile_mosaic.specs.Unpacked.{KeptTiles, AreTilesOf}
+use Rattle.tile_plan.specs.TileCache.{KeptTiles, AreTilesOf}
 
 -- the length of the file, the walk over its directories, the arrays and the tiles that are kept, and the query with what is done for it
 pub record ReaderState : Type 0 where
-  pub complete : ℕ
+  pub file_length : ℕ
   pub walk : WalkState
-  pub kept : Kept
+  pub kept : KeptArrays
   pub tiles : KeptTiles
   pub pending : Option PendingQuery
 
 -- ---- what it wants
 
 -- the range that a state wants next
-abbrev pub wanted_by : WalkState → Kept → State → Option Extent
+abbrev pub wanted_by : WalkState → KeptArrays → State → Option Extent
 wanted_by w k Directories = walk.wanted w
 wanted_by w k (Reads r) = slice_get (levels_of w) r.level >>= λ l. option_map extent_of_place (next_array k r.level l)
 wanted_by w k (Tiles m) = option_map (λ (g : Group). extent_of_span g.span) (slice_get m.groups m.given)
-wanted_by w k (Fields x) = option_map extent_of_place (slice_get (present_in x.places) x.given)
+wanted_by w k (GeoFields x) = option_map extent_of_place (slice_get (present_in x.places) x.given)
 wanted_by w k (Answered o) = None
 
 -- how the tiles are stored that a state wants, none where it wants no tiles
-abbrev pub tiles_wanted_by : Kept → State → Option Compression
+abbrev pub tiles_wanted_by : KeptArrays → State → Option Compression
 tiles_wanted_by (Both n a) (Tiles m) = option_map (λ (g : Group). a.level.compression) (slice_get m.groups m.given)
 tiles_wanted_by _ _ = None
 
@@ -55,22 +57,22 @@ tiles_wanted_by _ _ = None
 unfoldable pub tiles_wanted : ReaderState → Option Compression
 tiles_wanted r = r.pending >>= λ a. tiles_wanted_by r.kept a.state
 
--- a state wants tiles that are stored so, of so many bytes
-abbrev pub AreTiles : Compression → Kept → State → ℕ → Type 0
-AreTiles c k (Tiles m) len = HasBoth k (λ a. (a.level.compression ≡ c) × HasPlan a m) × IsGroupLen m len
-AreTiles c k _ len = ⊥
+-- a state wants tiles of so many bytes, and this is so of how they are stored
+abbrev pub AreTiles : (Compression → Type 0) → KeptArrays → State → ℕ → Type 0
+AreTiles P k (Tiles m) len = HasBoth k (λ a. P a.level.compression × HasPlan a m) × IsGroupLen m len
+AreTiles P k _ len = ⊥
 
 -- The range that the reader wants next, none without a query or with an outcome.
 unfoldable pub wanted : ReaderState → Option Extent
 wanted r = r.pending >>= λ a. wanted_by r.walk r.kept a.state
 
 -- the range that a state wants after the next one and i more, as far as it knows it
-abbrev pub upcoming_by : WalkState → Kept → State → ℕ → Option Extent
+abbrev pub upcoming_by : WalkState → KeptArrays → State → ℕ → Option Extent
 upcoming_by w k Directories i = None
 upcoming_by w k (Reads r) i =
     if i == 0 then (slice_get (levels_of w) r.level >>= λ l. option_map extent_of_place (array_after k r.level l)) else None
 upcoming_by w k (Tiles m) i = option_map (λ (g : Group). extent_of_span g.span) (slice_get m.groups (m.given + 1 + i))
-upcoming_by w k (Fields x) i = option_map extent_of_place (slice_get (present_in x.places) (x.given + 1 + i))
+upcoming_by w k (GeoFields x) i = option_map extent_of_place (slice_get (present_in x.places) (x.given + 1 + i))
 upcoming_by w k (Answered o) i = None
 
 -- The range that the reader wants after the next one and i more, as far as it knows it: the other array of a level, a later
@@ -91,8 +93,8 @@ unfoldable pub query_of : ReaderState → Option Query
 query_of r = option_map (λ (a : PendingQuery). a.query) r.pending
 
 -- The length of the file.
-unfoldable pub complete_of : ReaderState → ℕ
-complete_of r = r.complete
+unfoldable pub file_length_of : ReaderState → ℕ
+file_length_of r = r.file_length
 
 -- The tiles that are kept unpacked, and how many bytes they may have together.
 unfoldable pub tiles_of : ReaderState → KeptTiles
@@ -103,15 +105,15 @@ unfoldable pub AreDirectoriesRead : ReaderState → Type 0
 AreDirectoriesRead r = HasEnded r.walk
 
 -- how many of the ranges of the query's own are there: of a window the arrays that are kept of its level, then the groups
-abbrev pub own_given : List ℕ → Query → Kept → State → ℕ
+abbrev pub own_given : List ℕ → Query → KeptArrays → State → ℕ
 own_given f q k Directories = option_map_or (λ r. arrays_held k r.level) (rectangle f q) 0
 own_given f q k (Reads r) = arrays_held k r.level
 own_given f q k (Tiles m) = 2 + m.given
-own_given f q k (Fields x) = x.given
+own_given f q k (GeoFields x) = x.given
 own_given f q k (Answered o) = 0
 
 -- the ranges that a state wants of the file from now on
-abbrev pub come_by : List ℕ → WalkState → Kept → Query → State → List Extent
+abbrev pub come_by : List ℕ → WalkState → KeptArrays → Query → State → List Extent
 come_by f w k q (Answered o) = []
 come_by f w k q Directories = walk.to_come w f ++ drop (own_given f q k Directories) (needs_of_query f q)
 come_by f w k q state = drop (own_given f q k state) (needs_of_query f q)
@@ -121,7 +123,7 @@ unfoldable pub to_come : ReaderState → List ℕ → List Extent
 to_come r f = option_map_or (λ (a : PendingQuery). come_by f r.walk r.kept a.query a.state) r.pending []
 
 -- what a query needs of the file but for the directories and the arrays that are held
-abbrev pub unread_by : List ℕ → WalkState → Kept → Query → List Extent
+abbrev pub unread_by : List ℕ → WalkState → KeptArrays → Query → List Extent
 unread_by f w k q = come_by f w k q Directories
 
 -- What a query needs of the file but for the directories and the arrays that are held.
@@ -133,11 +135,11 @@ abbrev pub AreOfOneLevel : List ℕ → Query → Query → Type 0
 AreOfOneLevel f a b = IfSome (rectangle f a) (λ r. IfSome (rectangle f b) (λ s. r.level ≡ s.level))
 
 -- A number that falls with each range that is given.
-abbrev pub steps_by : WalkState → Kept → State → ℕ
+abbrev pub steps_by : WalkState → KeptArrays → State → ℕ
 steps_by w k Directories = 131072 + (65 - given_of w)
 steps_by w k (Reads r) = 65539 - arrays_held k r.level
 steps_by w k (Tiles m) = length m.groups - m.given
-steps_by w k (Fields x) = length (present_in x.places) - x.given
+steps_by w k (GeoFields x) = length (present_in x.places) - x.given
 steps_by w k (Answered o) = 0
 
 unfoldable pub steps_of : ReaderState → ℕ
@@ -146,35 +148,35 @@ steps_of r = option_map_or (λ (a : PendingQuery). steps_by r.walk r.kept a.stat
 -- ---- what is true of it
 
 -- a state is one of a walk and of arrays that are kept
-abbrev pub IsState : ℕ → WalkState → Kept → State → Type 0
-IsState complete w k Directories = ⊤
-IsState complete w k (Reads r) = HasEnded w × IsSomeAnd (slice_get (levels_of w) r.level) (λ l. IsSmall l r)
-IsState complete w k (Tiles m) = HasEnded w × HasBoth k (λ a. IsPlan complete a m)
-IsState complete w k (Fields x) = HasEnded w
-IsState complete w k (Answered o) = ⊤
+abbrev pub IsState : ℕ → WalkState → KeptArrays → State → Type 0
+IsState file_length w k Directories = ⊤
+IsState file_length w k (Reads r) = HasEnded w × IsSomeAnd (slice_get (levels_of w) r.level) (λ l. IsSmall l r)
+IsState file_length w k (Tiles m) = HasEnded w × HasBoth k (λ a. IsPlan file_length a m)
+IsState file_length w k (GeoFields x) = HasEnded w
+IsState file_length w k (Answered o) = ⊤
 
-pub record IsReader (complete : ℕ) (w : WalkState) (k : Kept) (pending : Option PendingQuery) : Type 0 where
+pub record IsReader (file_length : ℕ) (w : WalkState) (k : KeptArrays) (pending : Option PendingQuery) : Type 0 where
   pub kept : IsKeptOf w k
-  pub state : IfSome pending (λ a. IsState complete w k a.state)
+  pub state : IfSome pending (λ a. IsState file_length w k a.state)
 
 -- no fault of the file's directories stands
 abbrev pub IsClean : List ℕ → Type 0
 IsClean f = (fault : FileFault) → IsFaultOfDirectories f fault → ⊥
 
 -- what a state holds is the file's, and for the query
-abbrev pub StateAgrees : List ℕ → Query → Kept → State → Type 0
+abbrev pub StateAgrees : List ℕ → Query → KeptArrays → State → Type 0
 StateAgrees f q k Directories = ⊤
 StateAgrees f q k (Reads r) = (rectangle f q ≡ Some (rectangle_of r)) × (is_refused f q ≡ false)
 StateAgrees f q k (Tiles m) = HasBoth k (λ a. IsUnderway f q a m) × IsClean f
-StateAgrees f q k (Fields x) = (q ≡ query.Info) × IsReadOf f x
+StateAgrees f q k (GeoFields x) = (q ≡ query.Info) × IsReadOf f x
 StateAgrees f q k (Answered o) = IsTrueOf f q o
 
 pub record IsHeldOf (r : ReaderState) (f : List ℕ) : Type 0 where
-  pub size : length f ≡ r.complete
+  pub size : length f ≡ r.file_length
   pub walked : walk.WalkAgrees r.walk f
   pub kept : KeptAgrees f r.kept
   pub tiles : AreTilesOf f r.tiles
-  pub sound : IsReader r.complete r.walk r.kept r.pending
+  pub sound : IsReader r.file_length r.walk r.kept r.pending
   pub state : IfSome r.pending (λ a. StateAgrees f a.query r.kept a.state)
 
 -- All that the reader holds is the file's.
@@ -195,21 +197,21 @@ IsWantedOf f r bytes = IsSomeAnd (wanted r) (λ w. bytes ≡ bytes_in f w)
 abbrev pub Wants : ReaderState → Option Span → Type 0
 Wants r None = (wanted r ≡ None) × (query_of r ≡ None ⊎ IsSome (outcome_of r))
 Wants r (Some span) =
-    (wanted r ≡ Some (extent_of_span span)) × (span.last < complete_of r) × (span.last + 1 ≤ span.first + MAX_RANGE_BYTES)
+    (wanted r ≡ Some (extent_of_span span)) × (span.last < file_length_of r) × (span.last + 1 ≤ span.first + MAX_RANGE_BYTES)
     × (outcome_of r ≡ None)
 
 -- There is no such range that ends in a file of so many bytes, or it is this one.
 abbrev pub IsRangeIn : ℕ → Option Extent → Option Span → Type 0
-IsRangeIn complete range None = IfSome range (λ r. complete < r.first + r.len)
-IsRangeIn complete range (Some span) = (range ≡ Some (extent_of_span span)) × (span.last < complete)
+IsRangeIn file_length range None = IfSome range (λ r. file_length < r.first + r.len)
+IsRangeIn file_length range (Some span) = (range ≡ Some (extent_of_span span)) × (span.last < file_length)
 
 -- No next range is known that ends in the file, or it is this one.
 abbrev pub IsNext : ReaderState → Option Span → Type 0
-IsNext r span = IsRangeIn (complete_of r) (wanted r) span
+IsNext r span = IsRangeIn (file_length_of r) (wanted r) span
 
 -- The same of the range after the next one and i more.
 abbrev pub IsUpcoming : ReaderState → ℕ → Option Span → Type 0
-IsUpcoming r i span = IsRangeIn (complete_of r) (upcoming r i) span
+IsUpcoming r i span = IsRangeIn (file_length_of r) (upcoming r i) span
 
 -- What is to come after the wanted range was given: the ranges but for it, or none where the query is answered.
 abbrev pub AcceptsFirstRange : List ℕ → ReaderState → ReaderState → Type 0
@@ -231,5 +233,5 @@ pub record Takes (bytes : List ℕ) (old new : ReaderState) : Type 0 where
   pub held : (f : List ℕ) → ReaderAgrees old f → KeepsHeld f old new
   pub most : (tiles_of new).most ≡ (tiles_of old).most
   pub steps : steps_of new < steps_of old
-  pub complete : complete_of new ≡ complete_of old
+  pub file_length : file_length_of new ≡ file_length_of old
   pub query : query_of new ≡ query_of old

@@ -1,22 +1,23 @@
 //! The geo fields of the first directory, read one after another.
 ghost use Rattle.std.specs.Prelude.{◌≡◌, ◌+◌, ◌++◌, ◌≤◌, ℕ, List, [], drop, IsSomeAnd, None, OnErr, OnOk, length, slice_get, take};
 ghost use Rattle.tiff_dir.specs.Walk.{AreTyped, IsArrayOf};
-ghost use Rattle.cog_reader.specs.Fields.{len_of_field, present_in, AreFieldParts, IsReadOf};
+ghost use Rattle.cog_reader.specs.GeoFields.{len_of_field, present_in, AreFieldParts, IsReadOf};
 
+use extents::Memory;
 use std::alloc::Global;
 use std::marker::Model;
-use tiff_dir::{GeoPlaces, Memory, Place};
+use tiff_dir::{GeoPlaces, Place};
 
 /// The geo fields that a file has: where they stand, how many were read, and the bytes of those, one after the other.
 #[derive(Drop)]
-pub struct Fields {
+pub struct GeoFields {
     places: GeoPlaces,
     given: usize,
     bytes: Vec<u8>,
 }
 
-impl Model for Fields {
-    ghost use Rattle.cog_reader.specs.Fields.{FieldsState, AreFields};
+impl Model for GeoFields {
+    ghost use Rattle.cog_reader.specs.GeoFields.{FieldsState, AreFields};
 
     ghost Value = { FieldsState };
 
@@ -27,7 +28,7 @@ impl Model for Fields {
 
 /// The bytes of the six fields; those of an absent one are none.
 #[derive(Clone, Copy)]
-pub struct Parts<'a> {
+pub struct FieldBytes<'a> {
     pub directory: &'a [u8],
     pub doubles: &'a [u8],
     pub ascii: &'a [u8],
@@ -71,13 +72,13 @@ fn cut(place: Option<Place>, bytes: &[u8]) -> (&[u8], &[u8])
     }
 }
 
-impl Fields {
+impl GeoFields {
     /// None of them was read.
-    pub fn new(alloc: Global, places: GeoPlaces) -> Fields
+    pub fn new(alloc: Global, places: GeoPlaces) -> GeoFields
         requires { AreTyped places }
         ensures { result ≡ record { places = places; given = 0; bytes = [] } }
     {
-        Fields {
+        GeoFields {
             places,
             given: 0,
             bytes: Vec::new(alloc),
@@ -124,7 +125,7 @@ impl Fields {
     }
 
     /// The bytes of each field. All were read.
-    pub fn parts(&self) -> Parts<'_>
+    pub fn parts(&self) -> FieldBytes<'_>
         requires { self.now.given ≡ length (present_in self.now.places) }
         ensures typed { AreTyped self.now.places }
         ensures parts { AreFieldParts self.now.places self.now.bytes result.directory.now result.doubles.now result.ascii.now
@@ -136,7 +137,7 @@ impl Fields {
         let (scale, rest) = cut(self.places.scale, rest);
         let (tiepoints, rest) = cut(self.places.tiepoints, rest);
         let (transformation, _) = cut(self.places.transformation, rest);
-        Parts {
+        FieldBytes {
             directory,
             doubles,
             ascii,

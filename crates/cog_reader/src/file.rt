@@ -3,8 +3,9 @@ ghost use Rattle.std.specs.Prelude.{IfOk};
 ghost use Rattle.cog_reader.specs.Outcome.{IsTrueOf};
 
 use crate::{Outcome, Reader};
+use extents::Memory;
 use std::alloc::Global;
-use tiff_dir::{Memory, Query};
+use tiff_dir::Query;
 
 /// The answer to a query of a TIFF file in memory, a fault of the file included. `Memory` is the only error.
 ///

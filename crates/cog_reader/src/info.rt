@@ -3,15 +3,16 @@ ghost use Rattle.std.specs.Prelude.{◌≡◌, ◌%◌, ℕ, List, IfErr, IfOk, 
 ghost use Rattle.std.specs.Option.{option_map};
 ghost use Rattle.tiff_dir.specs.Walk.{WalkAgrees, HasEnded};
 ghost use Rattle.geokeys.specs.Doubles.{doubles_in};
-ghost use Rattle.cog_reader.specs.Fields.{present_in, IsReadOf};
+ghost use Rattle.cog_reader.specs.GeoFields.{present_in, IsReadOf};
 ghost use Rattle.cog_reader.specs.Outcome.{level_sides, IsInfoOf};
-ghost use Rattle.cog_reader.specs.Step.{IsInfoError};
+ghost use Rattle.cog_reader.specs.ReaderStep.{IsInfoError};
 
 use crate::Info;
-use crate::fields::Fields;
+use crate::fields::GeoFields;
+use extents::Memory;
 use geokeys::{Geo, GeoError, doubles};
 use std::alloc::Global;
-use tiff_dir::{Level, Memory, Order, Place, Walk, what_comes};
+use tiff_dir::{Level, Order, Place, Walk, law_what_comes};
 
 /// The sides of the levels.
 fn sides(alloc: Global, levels: &[Level]) -> Result<Vec<(u32, u32)>, Memory>
@@ -42,13 +43,13 @@ fn items(
 }
 
 /// What the file says, whose geo fields were all read, or what is wrong with its keys.
-pub fn info(alloc: Global, walk: &Walk, fields: &Fields) -> Result<Info, GeoError>
+pub fn info(alloc: Global, walk: &Walk, fields: &GeoFields) -> Result<Info, GeoError>
     requires ended { HasEnded walk.now }
     requires read { fields.now.given ≡ length (present_in fields.now.places) }
     ensures info { IfOk result (λ i. (f : List ℕ) → WalkAgrees walk.now f → IsReadOf f fields.now → IsInfoOf f i) }
     ensures refused { IfErr result (λ e. (f : List ℕ) → WalkAgrees walk.now f → IsReadOf f fields.now → IsInfoError f e) }
 {
-    what_comes();
+    law_what_comes();
     let order = walk.order();
     let parts = fields.parts();
     let geo = Geo::read(alloc, order, parts.directory, parts.doubles, parts.ascii)?;

@@ -2,24 +2,36 @@
 ghost use Rattle.std.specs.Prelude.{◌≡◌, ℕ, List, [], None, IfSome, IsSome, length};
 ghost use Rattle.tiff_dir.specs.Needs.{IsEndOf};
 ghost use Rattle.tiff_dir.specs.Query.{needs};
-ghost use Rattle.cog_reader.specs.Reader.{complete_of, outcome_of, query_of, to_come, ReaderAgrees, ReaderState};
+ghost use Rattle.cog_reader.specs.Reader.{file_length_of, outcome_of, query_of, to_come, ReaderAgrees, ReaderState};
+ghost use Rattle.cog_reader.specs.declared.ahead.TheConstants.{MAX_BLOCKS};
+ghost use Rattle.cog_reader.specs.Going.{LooksAtOneRange};
 
-use tiff_dir::what_comes;
+use tiff_dir::law_what_comes;
 
 /// What a reader still wants for its query is the end of what the query needs of the file.
-pub fn end_is_wanted()
+pub fn law_end_is_wanted()
     ensures { (r : ReaderState) (f : List ℕ) → ReaderAgrees r f → IfSome (query_of r) (λ q. IsEndOf (to_come r f) (needs f q)) }
 {
-    what_comes();
+    law_what_comes();
 }
 
 /// A reader that is asked nothing, or has answered its query, wants nothing of the file.
-pub fn nothing_comes()
+pub fn law_nothing_comes()
     ensures unasked { (r : ReaderState) (f : List ℕ) → query_of r ≡ None → to_come r f ≡ [] }
     ensures answered { (r : ReaderState) (f : List ℕ) → IsSome (outcome_of r) → to_come r f ≡ [] }
 {}
 
 /// What a reader agrees with has the length that it was made with.
-pub fn lengths_are_known()
-    ensures { (r : ReaderState) (f : List ℕ) → ReaderAgrees r f → length f ≡ complete_of r }
+pub fn law_lengths_are_known()
+    ensures { (r : ReaderState) (f : List ℕ) → ReaderAgrees r f → length f ≡ file_length_of r }
+{}
+
+/// How many blocks one request asks for at most, in numbers.
+pub fn law_most_blocks_are()
+    ensures { MAX_BLOCKS ≡ 65 }
+{}
+
+/// Where a request looks no block ahead, it asks for what is missing of one range alone.
+pub fn law_looks_at_one_range()
+    ensures { LooksAtOneRange }
 {}

@@ -18,7 +18,8 @@ pub struct Window {
     pub pixels: Vec<u8>,
 }
 
-/// What georeferences an image (OGC 19-008). Numbers of eight bytes are DOUBLEs (TIFF 6.0, section 2), with the most significant byte first.
+/// What georeferences an image (OGC 19-008). Numbers of eight bytes are DOUBLEs (TIFF 6.0, section 2), with the most
+/// significant byte first.
 #[derive(Debug, Drop, PartialEq, Eq)]
 pub struct Info {
     /// ImageWidth and ImageLength of each level, in pixels.

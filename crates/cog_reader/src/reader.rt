@@ -1,22 +1,22 @@
 //! One query answered from one file, which is given range by range.
 use crate::Outcome;
-use crate::kept::Kept;
-use crate::state::{PendingQuery, State};
+use crate::kept_arrays::KeptArrays;
+use crate::state::{FileView, PendingQuery, State};
+use extents::{Memory, Span};
 use std::alloc::Global;
 use std::marker::Model;
-use tiff_dir::{Compression, Level, Memory, Query, Span, Walk};
-use tile_mosaic::Unpacked;
-use tile_plan::Bytes;
+use tiff_dir::{Compression, Level, Query, Walk};
+use tile_plan::{Bytes, TileCache};
 
 /// A reader of one TIFF file of a known length, which answers one query after another. It says which bytes it needs next, and is
 /// given them, until the query is answered. The directories, and the tile arrays of the level last read, are kept from one
 /// query to the next; and tiles unpacked, where it is made by `keeping`.
 pub struct Reader {
     alloc: Global,
-    complete: u64,
+    file_length: u64,
     walk: Walk,
-    kept: Kept,
-    unpacked: Unpacked,
+    kept: KeptArrays,
+    tile_cache: TileCache,
     pending: Option<PendingQuery>,
 }
 
@@ -25,10 +25,10 @@ impl Drop for Reader {
     fn drop(self) {
         let Reader {
             alloc: _,
-            complete: _,
+            file_length: _,
             walk: _,
             kept: _,
-            unpacked: _,
+            tile_cache: _,
             pending: _,
         } = self;
     }
@@ -39,23 +39,24 @@ impl Model for Reader {
 
     ghost Value = { ReaderState };
 
-    ghost view = { λ r. record { complete = r.complete; walk = r.walk; kept = r.kept; tiles = r.unpacked; pending = r.pending } };
+    ghost view = { λ r. record { file_length = r.file_length; walk = r.walk; kept = r.kept; tiles = r.tile_cache; pending = r.pending } };
 
-    ghost invariant = { λ r. IsReader r.complete r.walk r.kept r.pending };
+    ghost invariant = { λ r. IsReader r.file_length r.walk r.kept r.pending };
 }
 
-#[tactic(auto, unfolding(crate::specs::Reader::wanted, crate::specs::Reader::tiles_wanted, crate::specs::Reader::outcome_of, crate::specs::Reader::query_of, crate::specs::Reader::complete_of, crate::specs::Reader::to_come, crate::specs::Reader::unread, crate::specs::Reader::upcoming, crate::specs::Reader::steps_of, crate::specs::Reader::tiles_of, crate::specs::Reader::AreDirectoriesRead, crate::specs::Reader::ReaderAgrees))]
+#[tactic(auto, unfolding(crate::specs::Reader::wanted, crate::specs::Reader::tiles_wanted, crate::specs::Reader::outcome_of, crate::specs::Reader::query_of, crate::specs::Reader::file_length_of, crate::specs::Reader::to_come, crate::specs::Reader::unread, crate::specs::Reader::upcoming, crate::specs::Reader::steps_of, crate::specs::Reader::tiles_of, crate::specs::Reader::AreDirectoriesRead, crate::specs::Reader::ReaderAgrees))]
 impl Reader {
-    ghost use Rattle.std.specs.Prelude.{◌≡◌, ◌+◌, ◌≤◌, ℕ, List, [], None, Some, IfOk, IfSome, IsOk, IsSome, IsSomeAnd, MatchOption, OnErr, OnOk, length, slice_get, ◌⊎◌};
-    ghost use Rattle.tiff_dir.specs.declared.level.Compression.TheVariants.{PackBits, Plain};
+    ghost use Rattle.std.specs.Prelude.{◌≡◌, ◌+◌, ◌≤◌, true, ℕ, List, [], None, Some, IfOk, IfSome, IsOk, IsSome, IsSomeAnd, MatchOption, OnErr, OnOk, length, slice_get, ◌⊎◌};
+    ghost use Rattle.tiff_dir.specs.declared.level.Compression.TheVariants.{Plain};
     ghost use Rattle.tiff_dir.specs.Described.{AreLevels};
-    ghost use Rattle.tiff_dir.specs.Walk.{extent_of_span};
+    ghost use Rattle.extents.specs.Extent.{extent_of_span};
     ghost use Rattle.tiff_dir.specs.declared.query.Query.{Query};
     ghost use Rattle.cog_reader.specs.Outcome.{IsTrueOf};
-    ghost use Rattle.cog_reader.specs.Reader.{complete_of, outcome_of, query_of, steps_of, tiles_of, tiles_wanted, to_come, unread, wanted, AreDirectoriesRead, ReaderAgrees, IsNext, IsUpcoming, IsWanted, Takes, Wants};
-    ghost use Rattle.tile_mosaic.specs.Unpacked.{size_of_tiles};
+    ghost use Rattle.cog_reader.specs.Reader.{file_length_of, outcome_of, query_of, steps_of, tiles_of, tiles_wanted, to_come, unread, wanted, AreDirectoriesRead, ReaderAgrees, IsNext, IsUpcoming, IsWanted, Takes, Wants};
+    ghost use Rattle.tiff_dir.specs.Window.{is_packed};
+    ghost use Rattle.tile_plan.specs.TileCache.{size_of_tiles};
 
-    /// A reader of a file of `complete` bytes, of which nothing is known yet, and nothing asked. It takes no memory.
+    /// A reader of a file of `file_length` bytes, of which nothing is known yet, and nothing asked. It takes no memory.
     ///
     /// ```
     /// let mut reader = Reader::new(rt.alloc(), file.len() as u64);
@@ -65,31 +66,31 @@ impl Reader {
     /// }
     /// let outcome = reader.outcome();
     /// ```
-    pub fn new(alloc: Global, complete: u64) -> Reader
-        ensures agrees { (f : List ℕ) → length f ≡ complete → ReaderAgrees result f }
+    pub fn new(alloc: Global, file_length: u64) -> Reader
+        ensures agrees { (f : List ℕ) → length f ≡ file_length → ReaderAgrees result f }
         ensures tiles { tiles_of result ≡ record { most = 0; tiles = [] } }
-        ensures complete { complete_of result ≡ complete }
+        ensures file_length { file_length_of result ≡ file_length }
         ensures query { query_of result ≡ None }
         ensures outcome { outcome_of result ≡ None }
     {
-        Reader::keeping(alloc, complete, 0)
+        Reader::keeping(alloc, file_length, 0)
     }
 
     /// The same, and from one window to the next it keeps the tiles unpacked that were used last, of at most so many bytes in all. Where
     /// there is no memory for a tile, that is unpacked again.
-    pub fn keeping(alloc: Global, complete: u64, bytes: usize) -> Reader
-        ensures agrees { (f : List ℕ) → length f ≡ complete → ReaderAgrees result f }
+    pub fn keeping(alloc: Global, file_length: u64, bytes: usize) -> Reader
+        ensures agrees { (f : List ℕ) → length f ≡ file_length → ReaderAgrees result f }
         ensures tiles { tiles_of result ≡ record { most = bytes; tiles = [] } }
-        ensures complete { complete_of result ≡ complete }
+        ensures file_length { file_length_of result ≡ file_length }
         ensures query { query_of result ≡ None }
         ensures outcome { outcome_of result ≡ None }
     {
         Reader {
             alloc,
-            complete,
+            file_length,
             walk: Walk::new(alloc),
-            kept: Kept::Nothing,
-            unpacked: Unpacked::new(alloc, bytes),
+            kept: KeptArrays::Nothing,
+            tile_cache: TileCache::new(alloc, bytes),
             pending: None,
         }
     }
@@ -98,7 +99,7 @@ impl Reader {
     pub fn no_more_is_kept(&self)
         ensures { size_of_tiles (tiles_of self.now).tiles ≤ (tiles_of self.now).most }
     {
-        self.unpacked.no_more_is_kept();
+        self.tile_cache.no_more_is_kept();
     }
 
     /// Asks a query, in the place of the one before, whose state goes. It takes no memory.
@@ -108,7 +109,7 @@ impl Reader {
         ensures come { (f : List ℕ) → to_come self.new f ≡ unread self.old f query }
         ensures held { (f : List ℕ) (q : Query) → unread self.new f q ≡ unread self.old f q }
         ensures tiles { tiles_of self.new ≡ tiles_of self.old }
-        ensures complete { complete_of self.new ≡ complete_of self.old }
+        ensures file_length { file_length_of self.new ≡ file_length_of self.old }
         ensures query { query_of self.new ≡ Some query }
         ensures outcome { outcome_of self.new ≡ None }
     {
@@ -128,34 +129,49 @@ impl Reader {
             → slice_get (to_come self.new f) 0 ≡ Some (extent_of_span span))) }
         ensures agrees { (f : List ℕ) → ReaderAgrees self.old f → ReaderAgrees self.new f }
         // The same ranges are still to come, the wanted one first, or none where the query is answered.
-        ensures come { OnOk result ((f : List ℕ) → ReaderAgrees self.old f → outcome_of self.new ≡ None → to_come self.new f ≡ to_come self.old f) }
+        ensures come { OnOk result ((f : List ℕ) → ReaderAgrees self.old f → outcome_of self.new ≡ None
+            → to_come self.new f ≡ to_come self.old f) }
         // What is held of the file stays: no query needs more of it than before.
         ensures held { (f : List ℕ) (q : Query) → unread self.new f q ≡ unread self.old f q }
         ensures tiles { tiles_of self.new ≡ tiles_of self.old }
         // Where nothing is asked, or an outcome stands, it isn't refused, and nothing changes.
         ensures idle { query_of self.old ≡ None ⊎ IsSome (outcome_of self.old) → IsOk result × (self.new ≡ self.old) }
         ensures steps { steps_of self.new ≤ steps_of self.old }
-        ensures complete { complete_of self.new ≡ complete_of self.old }
+        ensures file_length { file_length_of self.new ≡ file_length_of self.old }
         ensures query { query_of self.new ≡ query_of self.old }
         ensures err { OnErr result (self.new ≡ self.old) }
     {
         let Some(pending) = &mut self.pending else {
             return Ok(None);
         };
-        pending.need(
-            self.alloc,
-            self.complete,
-            &self.walk,
-            &self.kept,
-            &mut self.unpacked,
-        )
+        let file = FileView {
+            alloc: self.alloc,
+            file_length: self.file_length,
+            walk: &self.walk,
+            kept: &self.kept,
+        };
+        pending.need(&file, &mut self.tile_cache)
     }
 
     /// The length of the file.
-    pub fn complete(&self) -> u64
-        ensures { result ≡ complete_of self.now }
+    pub fn file_length(&self) -> u64
+        ensures { result ≡ file_length_of self.now }
     {
-        self.complete
+        self.file_length
+    }
+
+    /// Returns what its query goes by.
+    fn file(&self) -> FileView<'_>
+        ensures length { result.file_length ≡ self.now.file_length }
+        ensures walk { result.walk.now ≡ self.now.walk }
+        ensures kept { result.kept.now ≡ self.now.kept }
+    {
+        FileView {
+            alloc: self.alloc,
+            file_length: self.file_length,
+            walk: &self.walk,
+            kept: &self.kept,
+        }
     }
 
     /// The range that is wanted next, as far as it is known before `need` goes on, and ends in the file. It takes no memory.
@@ -166,7 +182,7 @@ impl Reader {
             → IfSome result (λ span. slice_get (to_come self.now f) 0 ≡ Some (extent_of_span span)) }
     {
         let pending = self.pending.as_ref()?;
-        pending.wanted(self.complete, &self.walk, &self.kept)
+        pending.wanted(&self.file())
     }
 
     /// The range that is wanted after the next one and `index` more, as far as it is known and ends in the file: the other array
@@ -178,7 +194,7 @@ impl Reader {
             → IfSome result (λ span. slice_get (to_come self.now f) (index + 1) ≡ Some (extent_of_span span)) }
     {
         let pending = self.pending.as_ref()?;
-        pending.upcoming(self.complete, &self.walk, &self.kept, index)
+        pending.upcoming(&self.file(), index)
     }
 
     /// Takes all bytes of the range that is wanted. A refusal (`Memory`, the only error) leaves the reader as it was. Tiles are never
@@ -196,7 +212,7 @@ impl Reader {
             self.alloc,
             &mut self.walk,
             &mut self.kept,
-            &mut self.unpacked,
+            &mut self.tile_cache,
             bytes,
         )?;
         Ok(())
@@ -229,7 +245,7 @@ impl Reader {
     /// bytes of another one are put in one piece, in `room` where they stand in several, which is as long as `Bytes` says. It is never
     /// refused.
     pub fn unpack<B: Bytes>(&mut self, bytes: &B, room: &mut [u8])
-        requires packed { tiles_wanted self.old ≡ Some PackBits }
+        requires packed { IsSomeAnd (tiles_wanted self.old) (λ c. is_packed c ≡ true) }
         requires wanted { IsWanted self.old (length (B.bytes bytes.now)) }
         requires room { B.room_needed bytes.now ≤ length room.old }
         ensures { Takes (B.bytes bytes.now) self.old self.new }
@@ -237,13 +253,14 @@ impl Reader {
         let Some(pending) = &mut self.pending else {
             unreachable!()
         };
-        pending.unpack(&self.kept, &mut self.unpacked, bytes, room);
+        pending.unpack(&self.kept, &mut self.tile_cache, bytes, room);
     }
 
     /// What answers the query, where it is answered: a window, what Info says, or a fault.
     pub fn outcome(&self) -> Option<&Outcome>
         ensures outcome { MatchOption result (outcome_of self.now ≡ None) (λ o. outcome_of self.now ≡ Some o.now) }
-        ensures true_of { (f : List ℕ) → ReaderAgrees self.now f → IfSome result (λ o. IsSomeAnd (query_of self.now) (λ q. IsTrueOf f q o.now)) }
+        ensures true_of { (f : List ℕ) → ReaderAgrees self.now f
+            → IfSome result (λ o. IsSomeAnd (query_of self.now) (λ q. IsTrueOf f q o.now)) }
     {
         match &self.pending {
             Some(
@@ -261,7 +278,7 @@ impl Reader {
         ensures known { MatchOption result (¬ AreDirectoriesRead self.now) (λ _. AreDirectoriesRead self.now) }
         ensures levels { (f : List ℕ) → ReaderAgrees self.now f → IfSome result (λ levels. AreLevels f levels.now) }
     {
-        match self.walk.need(self.complete) {
+        match self.walk.need(self.file_length) {
             Ok(None) => Some(self.walk.levels()),
             Ok(Some(_)) | Err(_) => None,
         }
@@ -280,7 +297,7 @@ impl Reader {
         ensures agrees { (f : List ℕ) → ReaderAgrees self.old f → ReaderAgrees self.new f }
         ensures held { (f : List ℕ) (q : Query) → unread self.new f q ≡ unread self.old f q }
         ensures tiles { tiles_of self.new ≡ tiles_of self.old }
-        ensures complete { complete_of self.new ≡ complete_of self.old }
+        ensures file_length { file_length_of self.new ≡ file_length_of self.old }
         ensures none { result ≡ None → self.new ≡ self.old }
     {
         let PendingQuery { query, state } = self.pending.take()?;

@@ -2,15 +2,15 @@
 //! range that a state wants.
 ghost use Rattle.std.specs.Prelude.{◌≡◌, ◌+◌, ◌<◌, ◌≤◌, ℕ, IfErr, IfOk, IsOk, IsSome, IsSomeAnd, MatchOption, Ok, OnErr, OnOk, length};
 ghost use Rattle.tiff_dir.specs.Needs.{extent_of_place};
-ghost use Rattle.tiff_dir.specs.Walk.{extent_of_span};
+ghost use Rattle.extents.specs.Extent.{extent_of_span};
 ghost use Rattle.cog_reader.specs.declared.outcome.Outcome.{Outcome as Answer};
 ghost use Rattle.cog_reader.specs.declared.state.State.TheVariants as states;
-ghost use Rattle.cog_reader.specs.declared.state.Step.TheVariants as steps;
-ghost use Rattle.cog_reader.specs.Kept.{IsKeptOf};
-ghost use Rattle.tile_mosaic.specs.Mosaic.{MosaicState};
+ghost use Rattle.cog_reader.specs.declared.state.ReaderStep.TheVariants as steps;
+ghost use Rattle.cog_reader.specs.KeptArrays.{IsKeptOf};
+ghost use Rattle.tile_plan.specs.WindowBuilder.{WindowState};
 ghost use Rattle.cog_reader.specs.Reader.{outcome_in, wanted_by, tiles_wanted_by, AreTiles, IsState};
 ghost use Rattle.cog_reader.specs.Give.{AcceptsRange, Gives};
-ghost use Rattle.cog_reader.specs.Step.{Becomes, ComesLater, ComesNext, IsStep, IsWantedBy};
+ghost use Rattle.cog_reader.specs.ReaderStep.{Becomes, ComesLater, ComesNext, IsStep, IsWantedBy};
 
 mod arrays;
 mod directories;
@@ -18,13 +18,23 @@ mod fields;
 mod tiles;
 
 use crate::Outcome;
-use crate::fields::Fields;
-use crate::kept::Kept;
+use crate::fields::GeoFields;
+use crate::kept_arrays::KeptArrays;
+use extents::{Memory, Span};
 use std::alloc::Global;
 use std::mem;
-use tiff_dir::{Compression, FileFault, Memory, Place, Query, Span, Walk};
-use tile_mosaic::{Mosaic, Unpacked};
-use tile_plan::{Bytes, Rectangle};
+use tiff_dir::{Compression, FileFault, Place, Query, Walk};
+use tile_plan::{Bytes, Rectangle, TileCache, WindowBuilder};
+
+/// What a query goes by: the length of its file in bytes, the directories as far as they are read, and the tile arrays that are
+/// kept. `alloc` gives it memory.
+#[derive(Clone, Copy)]
+pub struct FileView<'a> {
+    pub alloc: Global,
+    pub file_length: u64,
+    pub walk: &'a Walk,
+    pub kept: &'a KeptArrays,
+}
 
 /// How far a query has come. The directories come first, then for a window the arrays and the tiles, for Info the fields.
 #[derive(Drop)]
@@ -34,15 +44,15 @@ pub enum State {
     /// The tile arrays of the rectangle's level are read.
     Arrays(Rectangle),
     /// The groups of the window's tiles are read.
-    Tiles(Mosaic),
+    Tiles(WindowBuilder),
     /// The geo fields are read.
-    Fields(Fields),
+    GeoFields(GeoFields),
     /// The query is answered.
     Answered(Outcome),
 }
 
 /// What comes next for a query.
-pub enum Step {
+pub enum ReaderStep {
     /// In this state it wants a range of the file.
     Read(State, Span),
     /// It is answered.
@@ -52,38 +62,33 @@ pub enum Step {
 /// Goes on from a state as far as what is held allows: to a range that is wanted, or to the answer. A refusal of memory
 /// gives the state back.
 fn advance(
-    alloc: Global,
-    complete: u64,
-    walk: &Walk,
-    kept: &Kept,
-    unpacked: &mut Unpacked,
+    file: &FileView<'_>,
+    tile_cache: &mut TileCache,
     query: Query,
     state: State,
-) -> Result<Step, State>
-    requires kept { IsKeptOf walk.now kept.now }
-    requires state { IsState complete walk.now kept.now state }
-    ensures same { unpacked.new ≡ unpacked.old }
-    ensures step { IfOk result (IsStep complete walk.now kept.now query state) }
+) -> Result<ReaderStep, State>
+    requires kept { IsKeptOf file.now.walk.now file.now.kept.now }
+    requires state { IsState file.now.file_length file.now.walk.now file.now.kept.now state }
+    ensures same { tile_cache.new ≡ tile_cache.old }
+    ensures step { IfOk result (IsStep file.now.file_length file.now.walk.now file.now.kept.now query state) }
     ensures done { (o : Answer) → state ≡ states.Answered o → result ≡ Ok (steps.Answer o) }
     ensures err { IfErr result (λ s. s ≡ state) }
 {
     match state {
-        State::Directories => match directories::next(
-            alloc, complete, walk, kept, unpacked, query,
-        ) {
+        State::Directories => match directories::next(file, tile_cache, query) {
             Ok(step) => Ok(step),
             Err(Memory) => Err(State::Directories),
         },
-        State::Arrays(rect) => match arrays::next(alloc, complete, walk, kept, unpacked, rect) {
+        State::Arrays(rect) => match arrays::next(file, tile_cache, rect) {
             Ok(step) => Ok(step),
             Err(Memory) => Err(State::Arrays(rect)),
         },
-        State::Tiles(mosaic) => Ok(tiles::next(kept.both(), unpacked, mosaic)),
-        State::Fields(fields) => match fields::next(alloc, complete, walk, fields) {
+        State::Tiles(builder) => Ok(tiles::next(file.kept.both(), tile_cache, builder)),
+        State::GeoFields(fields) => match fields::next(file, fields) {
             Ok(step) => Ok(step),
-            Err(fields) => Err(State::Fields(fields)),
+            Err(fields) => Err(State::GeoFields(fields)),
         },
-        State::Answered(outcome) => Ok(Step::Answer(outcome)),
+        State::Answered(outcome) => Ok(ReaderStep::Answer(outcome)),
     }
 }
 
@@ -91,20 +96,21 @@ fn advance(
 fn accept(
     alloc: Global,
     walk: &mut Walk,
-    kept: &mut Kept,
+    kept: &mut KeptArrays,
     state: &mut State,
-    unpacked: &mut Unpacked,
+    tile_cache: &mut TileCache,
     bytes: &[u8],
 ) -> Result<Option<FileFault>, Memory>
     requires kept { IsKeptOf walk.old kept.old }
-    requires state { (complete : ℕ) × IsState complete walk.old kept.old state.old }
+    requires state { (file_length : ℕ) × IsState file_length walk.old kept.old state.old }
     requires wanted { IsSomeAnd (wanted_by walk.old kept.old state.old) (λ r. length bytes.now ≡ r.len) }
-    ensures accepts { IfOk result (λ o. (complete : ℕ) → IsState complete walk.old kept.old state.old
-        → AcceptsRange complete bytes.now
-        (record { walk = walk.old; kept = kept.old; tiles = unpacked.old; state = state.old })
-        (record { walk = walk.new; kept = kept.new; tiles = unpacked.new; state = state.new }) o) }
-    ensures tiles { (m : MosaicState) → state.old ≡ states.Tiles m → IsOk result }
-    ensures err { OnErr result ((walk.new ≡ walk.old) × (kept.new ≡ kept.old) × (unpacked.new ≡ unpacked.old) × (state.new ≡ state.old)) }
+    ensures accepts { IfOk result (λ o. (file_length : ℕ) → IsState file_length walk.old kept.old state.old
+        → AcceptsRange file_length bytes.now
+        (record { walk = walk.old; kept = kept.old; tiles = tile_cache.old; state = state.old })
+        (record { walk = walk.new; kept = kept.new; tiles = tile_cache.new; state = state.new }) o) }
+    ensures tiles { (m : WindowState) → state.old ≡ states.Tiles m → IsOk result }
+    ensures err { OnErr result ((walk.new ≡ walk.old) × (kept.new ≡ kept.old) × (tile_cache.new ≡ tile_cache.old)
+        × (state.new ≡ state.old)) }
 {
     match state {
         State::Directories => directories::accept(walk, bytes),
@@ -112,8 +118,8 @@ fn accept(
             arrays::accept(alloc, walk, kept, *rect, bytes)?;
             Ok(None)
         }
-        State::Tiles(mosaic) => Ok(tiles::accept(kept, mosaic, unpacked, bytes)),
-        State::Fields(fields) => {
+        State::Tiles(builder) => Ok(tiles::accept(kept, builder, tile_cache, bytes)),
+        State::GeoFields(fields) => {
             fields.give(bytes)?;
             Ok(None)
         }
@@ -133,29 +139,27 @@ impl PendingQuery {
     /// leaves the state as it was.
     pub fn need(
         &mut self,
-        alloc: Global,
-        complete: u64,
-        walk: &Walk,
-        kept: &Kept,
-        unpacked: &mut Unpacked,
+        file: &FileView<'_>,
+        tile_cache: &mut TileCache,
     ) -> Result<Option<Span>, Memory>
-        requires kept { IsKeptOf walk.now kept.now }
-        requires state { IsState complete walk.now kept.now self.old.state }
-        ensures same { unpacked.new ≡ unpacked.old }
+        requires kept { IsKeptOf file.now.walk.now file.now.kept.now }
+        requires state { IsState file.now.file_length file.now.walk.now file.now.kept.now self.old.state }
+        ensures same { tile_cache.new ≡ tile_cache.old }
         ensures query { self.new.query ≡ self.old.query }
-        ensures becomes { OnOk result (Becomes complete walk.now kept.now self.old.query self.old.state self.new.state) }
+        ensures becomes { OnOk result
+            (Becomes file.now.file_length file.now.walk.now file.now.kept.now self.old.query self.old.state self.new.state) }
         ensures wanted { IfOk result (λ o. MatchOption o (IsSome (outcome_in self.new.state))
-            (λ span. IsWantedBy complete walk.now kept.now self.new.state (extent_of_span span))) }
+            (λ span. IsWantedBy file.now.file_length file.now.walk.now file.now.kept.now self.new.state (extent_of_span span))) }
         ensures done { IsSome (outcome_in self.old.state) → IsOk result × (self.new ≡ self.old) }
         ensures err { OnErr result (self.new ≡ self.old) }
     {
         let state = mem::replace(&mut self.state, State::Directories);
-        match advance(alloc, complete, walk, kept, unpacked, self.query, state) {
-            Ok(Step::Read(state, span)) => {
+        match advance(file, tile_cache, self.query, state) {
+            Ok(ReaderStep::Read(state, span)) => {
                 self.state = state;
                 Ok(Some(span))
             }
-            Ok(Step::Answer(outcome)) => {
+            Ok(ReaderStep::Answer(outcome)) => {
                 self.state = State::Answered(outcome);
                 Ok(None)
             }
@@ -167,28 +171,28 @@ impl PendingQuery {
     }
 
     /// The range that is wanted next, as far as it is known and ends in the file.
-    pub fn wanted(&self, complete: u64, walk: &Walk, kept: &Kept) -> Option<Span>
-        requires { IsState complete walk.now kept.now self.now.state }
-        ensures { ComesNext complete walk.now kept.now self.now.state result }
+    pub fn wanted(&self, file: &FileView<'_>) -> Option<Span>
+        requires { IsState file.now.file_length file.now.walk.now file.now.kept.now self.now.state }
+        ensures { ComesNext file.now.file_length file.now.walk.now file.now.kept.now self.now.state result }
     {
         match &self.state {
-            State::Directories => directories::wanted(complete, walk),
-            State::Arrays(rect) => arrays::wanted(complete, walk, kept, *rect),
-            State::Tiles(mosaic) => tiles::wanted(mosaic),
-            State::Fields(fields) => fields::wanted(complete, fields),
+            State::Directories => directories::wanted(file),
+            State::Arrays(rect) => arrays::wanted(file, *rect),
+            State::Tiles(builder) => tiles::wanted(builder),
+            State::GeoFields(fields) => fields::wanted(file.file_length, fields),
             State::Answered(_) => None,
         }
     }
 
     /// The range that is wanted after the next one and `index` more, as far as it is known and ends in the file.
-    pub fn upcoming(&self, complete: u64, walk: &Walk, kept: &Kept, index: u32) -> Option<Span>
-        requires { IsState complete walk.now kept.now self.now.state }
-        ensures { ComesLater complete walk.now kept.now self.now.state index result }
+    pub fn upcoming(&self, file: &FileView<'_>, index: u32) -> Option<Span>
+        requires { IsState file.now.file_length file.now.walk.now file.now.kept.now self.now.state }
+        ensures { ComesLater file.now.file_length file.now.walk.now file.now.kept.now self.now.state index result }
     {
         match &self.state {
-            State::Arrays(rect) if index == 0 => arrays::upcoming(complete, walk, kept, *rect),
-            State::Tiles(mosaic) => tiles::upcoming(mosaic, index),
-            State::Fields(fields) => fields::upcoming(complete, fields, index),
+            State::Arrays(rect) if index == 0 => arrays::upcoming(file, *rect),
+            State::Tiles(builder) => tiles::upcoming(builder, index),
+            State::GeoFields(fields) => fields::upcoming(file.file_length, fields, index),
             _ => None,
         }
     }
@@ -198,22 +202,23 @@ impl PendingQuery {
         &mut self,
         alloc: Global,
         walk: &mut Walk,
-        kept: &mut Kept,
-        unpacked: &mut Unpacked,
+        kept: &mut KeptArrays,
+        tile_cache: &mut TileCache,
         bytes: &[u8],
     ) -> Result<(), Memory>
         requires kept { IsKeptOf walk.old kept.old }
-        requires state { (complete : ℕ) × IsState complete walk.old kept.old self.old.state }
+        requires state { (file_length : ℕ) × IsState file_length walk.old kept.old self.old.state }
         requires wanted { IsSomeAnd (wanted_by walk.old kept.old self.old.state) (λ r. length bytes.now ≡ r.len) }
         ensures query { self.new.query ≡ self.old.query }
-        ensures gives { OnOk result ((complete : ℕ) → IsState complete walk.old kept.old self.old.state
-            → Gives complete bytes.now self.old.query
-            (record { walk = walk.old; kept = kept.old; tiles = unpacked.old; state = self.old.state })
-            (record { walk = walk.new; kept = kept.new; tiles = unpacked.new; state = self.new.state })) }
+        ensures gives { OnOk result ((file_length : ℕ) → IsState file_length walk.old kept.old self.old.state
+            → Gives file_length bytes.now self.old.query
+            (record { walk = walk.old; kept = kept.old; tiles = tile_cache.old; state = self.old.state })
+            (record { walk = walk.new; kept = kept.new; tiles = tile_cache.new; state = self.new.state })) }
         ensures tiles { IsSome (tiles_wanted_by kept.old self.old.state) → IsOk result }
-        ensures err { OnErr result ((walk.new ≡ walk.old) × (kept.new ≡ kept.old) × (unpacked.new ≡ unpacked.old) × (self.new ≡ self.old)) }
+        ensures err { OnErr result ((walk.new ≡ walk.old) × (kept.new ≡ kept.old) × (tile_cache.new ≡ tile_cache.old)
+            × (self.new ≡ self.old)) }
     {
-        match accept(alloc, walk, kept, &mut self.state, unpacked, bytes)? {
+        match accept(alloc, walk, kept, &mut self.state, tile_cache, bytes)? {
             Some(fault) => self.state = State::Answered(Outcome::Fault(fault)),
             None => {}
         }
@@ -222,18 +227,19 @@ impl PendingQuery {
 }
 
 impl PendingQuery {
-    ghost use Rattle.tiff_dir.specs.declared.level.Compression.TheVariants.{PackBits, Plain};
-    ghost use Rattle.std.specs.Prelude.{List};
+    ghost use Rattle.tiff_dir.specs.declared.level.Compression.TheVariants.{Plain};
+    ghost use Rattle.std.specs.Prelude.{true, List};
     ghost use Rattle.tiff_dir.specs.WalkState.{WalkState};
-    ghost use Rattle.tile_mosaic.specs.Unpacked.{KeptTiles};
+    ghost use Rattle.tiff_dir.specs.Window.{is_packed};
+    ghost use Rattle.tile_plan.specs.TileCache.{KeptTiles};
 
     /// How the tiles are stored that are wanted, none where no tiles are.
-    pub fn tiles_wanted(&self, kept: &Kept) -> Option<Compression>
+    pub fn tiles_wanted(&self, kept: &KeptArrays) -> Option<Compression>
         ensures { result ≡ tiles_wanted_by kept.now self.now.state }
     {
         match (&self.state, kept) {
-            (State::Tiles(mosaic), Kept::Both(_, arrays)) => {
-                mosaic.need()?;
+            (State::Tiles(builder), KeptArrays::Both(_, arrays)) => {
+                builder.need()?;
                 Some(arrays.level.compression)
             }
             _ => None,
@@ -241,53 +247,53 @@ impl PendingQuery {
     }
 
     /// Takes the bytes of plain tiles that are wanted.
-    pub fn paint<B: Bytes>(&mut self, kept: &Kept, bytes: &B)
-        requires { AreTiles Plain kept.now self.old.state (length (B.bytes bytes.now)) }
+    pub fn paint<B: Bytes>(&mut self, kept: &KeptArrays, bytes: &B)
+        requires { AreTiles (λ c. c ≡ Plain) kept.now self.old.state (length (B.bytes bytes.now)) }
         ensures query { self.new.query ≡ self.old.query }
-        ensures gives { (complete : ℕ) (w : WalkState) (tiles : KeptTiles) → IsKeptOf w kept.now
-            → IsState complete w kept.now self.old.state → Gives complete (B.bytes bytes.now) self.old.query
+        ensures gives { (file_length : ℕ) (w : WalkState) (tiles : KeptTiles) → IsKeptOf w kept.now
+            → IsState file_length w kept.now self.old.state → Gives file_length (B.bytes bytes.now) self.old.query
             (record { walk = w; kept = kept.now; tiles = tiles; state = self.old.state })
             (record { walk = w; kept = kept.now; tiles = tiles; state = self.new.state }) }
     {
-        let State::Tiles(mosaic) = &mut self.state else {
+        let State::Tiles(builder) = &mut self.state else {
             unreachable!()
         };
-        tiles::paint(kept, mosaic, bytes);
+        tiles::paint(kept, builder, bytes);
     }
 
     /// Takes the bytes of packed tiles that are wanted. Where they tell a fault, it answers the query.
     pub fn unpack<B: Bytes>(
         &mut self,
-        kept: &Kept,
-        unpacked: &mut Unpacked,
+        kept: &KeptArrays,
+        tile_cache: &mut TileCache,
         bytes: &B,
         room: &mut [u8],
     )
-        requires tiles { AreTiles PackBits kept.now self.old.state (length (B.bytes bytes.now)) }
+        requires tiles { AreTiles (λ c. is_packed c ≡ true) kept.now self.old.state (length (B.bytes bytes.now)) }
         requires room { B.room_needed bytes.now ≤ length room.old }
         ensures query { self.new.query ≡ self.old.query }
-        ensures gives { (complete : ℕ) (w : WalkState) → IsKeptOf w kept.now → IsState complete w kept.now self.old.state
-            → Gives complete (B.bytes bytes.now) self.old.query
-            (record { walk = w; kept = kept.now; tiles = unpacked.old; state = self.old.state })
-            (record { walk = w; kept = kept.now; tiles = unpacked.new; state = self.new.state }) }
+        ensures gives { (file_length : ℕ) (w : WalkState) → IsKeptOf w kept.now → IsState file_length w kept.now self.old.state
+            → Gives file_length (B.bytes bytes.now) self.old.query
+            (record { walk = w; kept = kept.now; tiles = tile_cache.old; state = self.old.state })
+            (record { walk = w; kept = kept.now; tiles = tile_cache.new; state = self.new.state }) }
     {
-        let State::Tiles(mosaic) = &mut self.state else {
+        let State::Tiles(builder) = &mut self.state else {
             unreachable!()
         };
-        match tiles::unpack(kept, mosaic, unpacked, bytes, room) {
+        match tiles::unpack(kept, builder, tile_cache, bytes, room) {
             Some(fault) => self.state = State::Answered(Outcome::Fault(fault)),
             None => {}
         }
     }
 }
 
-/// The bytes of a field's values, none if they end after a file of `complete` bytes.
-fn span_of(place: Place, complete: u64) -> Option<Span>
+/// The bytes of a field's values, none if they end after a file of `file_length` bytes.
+fn span_of(place: Place, file_length: u64) -> Option<Span>
     requires { 0 < place.len }
-    ensures { MatchOption result (complete < place.first + place.len)
-        (λ span. (extent_of_span span ≡ extent_of_place place) × (place.first + place.len ≤ complete)) }
+    ensures { MatchOption result (file_length < place.first + place.len)
+        (λ span. (extent_of_span span ≡ extent_of_place place) × (place.first + place.len ≤ file_length)) }
 {
-    if place.len > complete || place.first > complete - place.len {
+    if place.len > file_length || place.first > file_length - place.len {
         return None;
     }
     Some(Span {

@@ -1,9 +1,9 @@
 -- What a connection may still do.
-use Rattle.std.proofs.Common.{◌≡◌, ◌==◌, ◌||◌, ℕ, ◌+◌, ◌≤◌, Bool, true, false, if◌then◌else◌, List, [], length, take, drop, not, sym, ap, subst, ◌∙◌, arith, inl, inr}
+use Rattle.std.proofs.Common.{◌≡◌, ◌==◌, ◌||◌, ℕ, ◌+◌, ◌≤◌, Bool, true, false, Some, if◌then◌else◌, List, [], length, take, drop, not, sym, ap, subst, ◌∙◌, arith, inl, inr}
 use Rattle.std.proofs.Math.Seq.{drop-length}
 use Rattle.std.proofs.lemmas.Bool.Decides.{nat_tests}
 use Rattle.std.proofs.lemmas.List.{length-take-le, nil_from_length}
-use Rattle.http_parts.specs.declared.limits.TheConstants.{ANSWERS_LIMIT}
+use Rattle.http_fields.specs.declared.limits.TheConstants.{ANSWERS_LIMIT}
 use Rattle.http_range.specs.Book.{Catalogue}
 use Rattle.http_range.specs.Response.{text_of}
 use Rattle.http_range.specs.Stream.{IsFirstMessage}
@@ -42,31 +42,32 @@ answers_now held waiting closed over answers dropped n s shut view is_shut shut_
 
 -- ---- the next answer
 
-module _ (catalogue : Catalogue) (held waiting : List ℕ) (closed over : Bool) (answers dropped n : ℕ) (s : Status) (o : Outgoing) (shut : Bool)
+module _ (catalogue : Catalogue) (held waiting : List ℕ) (closed over : Bool) (answers dropped n : ℕ) (s : Status) (o : Outgoing) (status : ℕ) (shut : Bool)
     (view : record { held = held; waiting = waiting; is_closed = closed; answers = answers; is_over = over; dropped = dropped } ≡ s)
     (is_shut : shut ≡ (closed || answers == ANSWERS_LIMIT)) (shut_not : shut ≡ false) (written : waiting ≡ []) (few : n ≤ length held)
-    (first : IsFirstMessage held (take n held)) (out : IsOutgoing catalogue (take n held) o) where
+    (first : IsFirstMessage held (take n held)) (out : IsOutgoing catalogue (take n held) o status) where
   abbrev pub answered : Status
   answered = record { held = drop n held; waiting = waiting_of o; is_closed = o.close; answers = answers + 1; is_over = over; dropped = dropped }
 
-  goes : (new : Status) → new ≡ let_go answered → GoesOn catalogue s new true
-  goes new is = subst (λ (t : Status). GoesOn catalogue t new true) view (
+  goes : (new : Status) → new ≡ let_go answered → GoesOn catalogue s new (Some status)
+  goes new is = subst (λ (t : Status). GoesOn catalogue t new (Some status)) view (
     take n held,
     out.response,
     record { goes_on = sym is_shut ∙ shut_not; written = written; first = first; answers = out.answers },
     is ∙ ap let_go (ap (λ (k : ℕ). record answered { held = drop k held }) (sym (length-take-le n held few))
         ∙ ap (λ (w : List ℕ). record answered { held = drop (length (take n held)) held; waiting = w }) out.text
         ∙ ap (λ (b : Bool). record answered { held = drop (length (take n held)) held; waiting = text_of out.response; is_closed = b }) out.close),
+    out.status,
   )
 
   pub goes_open : (last : Bool) → last ≡ (o.close || answers + 1 == ANSWERS_LIMIT) → last ≡ false → (rest : List ℕ) → rest ≡ drop n held
-      → GoesOn catalogue s (record answered { held = rest }) true
+      → GoesOn catalogue s (record answered { held = rest }) (Some status)
   goes_open last is stays rest rests =
       goes (record answered { held = rest }) (ap (λ (h : List ℕ). record answered { held = h }) rests
       ∙ ap (λ (t : Bool). if t then record answered { held = []; dropped = length (drop n held) } else answered) (sym (sym is ∙ stays)))
 
   pub goes_last : (last : Bool) → last ≡ (o.close || answers + 1 == ANSWERS_LIMIT) → last ≡ true → (rest left : List ℕ) (k : ℕ) → rest ≡ drop n held → k ≡ length rest → left ≡ drop k rest
-      → GoesOn catalogue s (record answered { held = left; dropped = k }) true
+      → GoesOn catalogue s (record answered { held = left; dropped = k }) (Some status)
   goes_last last is shuts rest left k rests count leaves =
       let none : left ≡ [] = leaves ∙ (ap (λ (i : ℕ). drop i rest) count ∙ drop-length rest) in
       goes (record answered { held = left; dropped = k })

@@ -10,7 +10,7 @@ use Rattle.http_range.specs.Laws.{MessagesStay}
 use Rattle.http_range.specs.Response.{Response}
 use Rattle.http_range.specs.Stream.{IsUnfinished, answers_text, ending_of}
 use Rattle.http_range.specs.Stream.Ending.{Closed, Limit, EndOfInput}
-use Rattle.http_parts.specs.declared.limits.TheConstants.{MESSAGE_LIMIT}
+use Rattle.http_fields.specs.declared.limits.TheConstants.{MESSAGE_LIMIT}
 use Rattle.cog_server.specs.declared.served.Ended.{Ended}
 use Rattle.cog_server.specs.declared.served.Ended.TheVariants.{Closed as told_closed, Limit as told_limit, EndOfInput as told_end}
 use Rattle.cog_server.specs.declared.served.Served.{Served}

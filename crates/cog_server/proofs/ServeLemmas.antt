@@ -1,13 +1,14 @@
 -- Serving a stream: what the loop over a connection keeps.
 use Rattle.std.proofs.Common.{◌≡◌, ◌==◌, ℕ, ◌+◌, ◌-◌, ◌*◌, ◌<◌, ◌≤◌, Bool, true, false, cond, List, [], ◌∷◌, ◌++◌, length, take, drop, Option, Some, None, refl, sym, ap, ◌∙◌, subst, arith, append_assoc, append-nil, length-append, inl, inr}
 use Rattle.std.specs.Io.KnownBytes.{append_known}
+use Rattle.std.specs.Prelude.{is_some}
 use Rattle.std.proofs.lemmas.List.{drop_all, take_all}
 use Rattle.std.proofs.lemmas.Bool.{cases_Bool}
 use Rattle.http_range.specs.Book.{Catalogue}
 use Rattle.http_range.specs.Laws.{MessagesStay}
 use Rattle.http_range.specs.Response.{Response, text_of}
 use Rattle.http_range.specs.Stream.{IsUnfinished, answers_text}
-use Rattle.http_parts.specs.declared.limits.TheConstants.{MESSAGE_LIMIT}
+use Rattle.http_fields.specs.declared.limits.TheConstants.{MESSAGE_LIMIT}
 use Rattle.cog_server.specs.Received.{IsReceived, after_read}
 use Rattle.cog_server.specs.Run.{AreFrom, Exchange, IsAnsweredAlone, Past, responses_of}
 use Rattle.cog_server.specs.Sent.{IsWritten}
@@ -192,10 +193,22 @@ answers {catalogue} {s = s} law message r h is =
       waits = waits_whole message r s;
     }
 
+-- a status says that a message was answered
+pub answered : (catalogue : Catalogue) (s s' : Status) (o : Option ℕ) (some : Bool) → some ≡ is_some o → some ≡ true → GoesOn catalogue s s' o
+    → (status : ℕ) × GoesOn catalogue s s' (Some status)
+answered catalogue s s' None some is so goes = clash (sym is ∙ so)
+answered catalogue s s' (Some status) some is so goes = (status, goes)
+
+-- none says that no message was
+pub rested : (catalogue : Catalogue) (s s' : Status) (o : Option ℕ) (some : Bool) → some ≡ is_some o → some ≡ false → GoesOn catalogue s s' o
+    → GoesOn catalogue s s' None
+rested catalogue s s' None some is not_so goes = goes
+rested catalogue s s' (Some status) some is not_so goes = clash (sym not_so ∙ is)
+
 pub went : {catalogue : Catalogue} {given given' taken taken' : Option (List ℕ)} {is_over : Type 0} {s : Status} → MessagesStay
-    → (s' : Status) → Going catalogue given given' taken taken' is_over s → GoesOn catalogue s s' true
+    → (s' : Status) (status : ℕ) → Going catalogue given given' taken taken' is_over s → GoesOn catalogue s s' (Some status)
     → Answering catalogue given given' taken taken' is_over s'
-went {catalogue} {given} {given'} {taken} {taken'} {is_over} law s' h goes =
+went {catalogue} {given} {given'} {taken} {taken'} {is_over} law s' status h goes =
     subst (λ (x : Status). Answering catalogue given given' taken taken' is_over x) (sym goes.3) (answers law goes.0 goes.1 h goes.2)
 
 -- ---- what is written
@@ -251,7 +264,7 @@ still_open law s silent rests none = elim none [
 ]
 
 -- nothing is answered, and it hasn't ended
-pub stands : (catalogue : Catalogue) (s s' : Status) → MessagesStay → GoesOn catalogue s s' false → s.waiting ≡ [] → EndsBy s' None → IsOpen s'
+pub stands : (catalogue : Catalogue) (s s' : Status) → MessagesStay → GoesOn catalogue s s' None → s.waiting ≡ [] → EndsBy s' None → IsOpen s'
 stands catalogue s s' law goes silent none =
     subst IsOpen (sym goes.0) (still_open law s silent goes.1 (subst (λ (x : Status). EndsBy x None) goes.0 none))
 
@@ -297,9 +310,9 @@ answer_smaller message r s room =
     subst (λ (b : Bool). (100 - t.answers) * 8194 + (8192 - length t.held) + cond b 0 1 < left s) (sym (over_kept message r s))
     (less_left s.answers t.answers (8192 - length s.held) (8192 - length t.held) (cond s.is_over 0 1) (answers_after message r s) room (omega arith))
 
-pub less_to_answer : {catalogue : Catalogue} {given given' taken taken' : Option (List ℕ)} {is_over : Type 0} {s : Status} (s' t : Status)
-    → Going catalogue given given' taken taken' is_over s → GoesOn catalogue s s' true → t ≡ after_write (length s'.waiting) s' → left t < left s
-less_to_answer {s = s} s' t h goes same =
+pub less_to_answer : {catalogue : Catalogue} {given given' taken taken' : Option (List ℕ)} {is_over : Type 0} {s : Status} (s' t : Status) (status : ℕ)
+    → Going catalogue given given' taken taken' is_over s → GoesOn catalogue s s' (Some status) → t ≡ after_write (length s'.waiting) s' → left t < left s
+less_to_answer {s = s} s' t status h goes same =
     let other = (neither s.is_closed (s.answers == 100) goes.2.goes_on).1 in
     let room = one_fewer s.answers (subst (λ (n : ℕ). n ≤ 100) (sym h.alone.counted) h.alone.few) other in
     subst (λ (x : Status). left x < left s) (sym (same ∙ ap (λ (x : Status). after_write (length x.waiting) x) goes.3))

@@ -1,6 +1,6 @@
 -- Limits that the definitions of a server name.
 use Rattle.std.specs.Prelude.{◌≡◌}
-use Rattle.http_parts.specs.declared.limits.TheConstants.{NAME_LIMIT, HOST_LIMIT}
+use Rattle.http_fields.specs.declared.limits.TheConstants.{NAME_LIMIT, HOST_LIMIT}
 use Rattle.http_range.specs.declared.publication.TheConstants.{FILE_LIMIT, NAMES_LIMIT}
 use Rattle.cog_server.specs.declared.limits.TheConstants.{DROP_LIMIT}
 

@@ -1,7 +1,7 @@
 -- Whole runs of a connection: what came, what is written, and which message was answered from which catalogue.
 use Rattle.std.specs.Prelude.{◌≡◌, ◌≤◌, ◌⊎◌, ℕ, true, false, List, [], ◌∷◌, ◌++◌, length, map, take, ⊤}
 use Rattle.std.specs.List.{list_any, flat_map}
-use Rattle.http_parts.specs.declared.limits.TheConstants.{ANSWERS_LIMIT}
+use Rattle.http_fields.specs.declared.limits.TheConstants.{ANSWERS_LIMIT}
 use Rattle.http_range.specs.Book.{Catalogue}
 use Rattle.http_range.specs.Response.{Response, IsAnswer}
 use Rattle.http_range.specs.Stream.{IsFirstMessage, IsUnfinished, IsAnswered, answers_text}

@@ -1,6 +1,6 @@
 -- What a server answers on a stream (RFC 9112, sections 9.3 and 9.6).
 use Rattle.std.specs.Prelude.{◌≡◌, ◌+◌, ◌<◌, ◌≤◌, ℕ, zero, suc, Bool, true, false, List, [], ◌∷◌, ◌++◌, drop, length, Result, Ok, Err}
-use Rattle.http_parts.specs.declared.limits.TheConstants.{ANSWERS_LIMIT, MESSAGE_LIMIT}
+use Rattle.http_fields.specs.declared.limits.TheConstants.{ANSWERS_LIMIT, MESSAGE_LIMIT}
 use Rattle.http_range.specs.Book.{Catalogue}
 use Rattle.http_range.specs.Honest.{IsFront}
 use Rattle.http_range.specs.Response.{Response, text_of}

@@ -1,7 +1,7 @@
 -- The server of one epoch.
 use Rattle.std.specs.Prelude.{◌≡◌, ◌≢◌, ◌⊎◌, ℕ, not, ◌&&◌, ◌==◌, nat_lt, nat_le, if◌then◌else◌, List, length, option_map, Option, Some, None, is_none}
 use Rattle.http_range.specs.declared.publication.TheConstants.{FILE_LIMIT, NAMES_LIMIT}
-use Rattle.http_parts.specs.Names.{is_name}
+use Rattle.http_fields.specs.Names.{is_name}
 use Rattle.http_range.specs.Reply.{status_of}
 use Rattle.http_range.specs.Seen.{SeenRequest}
 use Rattle.http_range.specs.Book.{Catalogue, published}

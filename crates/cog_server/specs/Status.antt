@@ -1,7 +1,8 @@
 -- What others know of a connection, and what each call makes of it (RFC 9112, sections 9.3 and 9.6).
 use Rattle.std.specs.Prelude.{◌≡◌, ◌≢◌, ◌⊎◌, ◌==◌, ◌||◌, ◌&&◌, ◌+◌, ◌-◌, ℕ, min, nat_le, Bool, true, false, if◌then◌else◌, List, [], ◌++◌, length, drop, Option, Some, None}
-use Rattle.http_parts.specs.declared.limits.TheConstants.{ANSWERS_LIMIT, MESSAGE_LIMIT}
+use Rattle.http_fields.specs.declared.limits.TheConstants.{ANSWERS_LIMIT, MESSAGE_LIMIT}
 use Rattle.http_range.specs.Book.{Catalogue}
+use Rattle.http_range.specs.Reply.{status_of}
 use Rattle.http_range.specs.Response.{Response, IsAnswer, text_of}
 use Rattle.http_range.specs.Stream.{IsFirstMessage, IsUnfinished}
 use Rattle.cog_server.specs.declared.limits.TheConstants.{DROP_LIMIT}
@@ -73,11 +74,12 @@ after_answer message response s = let_go (after_message message response s)
 abbrev pub Rests : Status → Type 0
 Rests s = (is_closing s ≡ true) ⊎ ((s.waiting ≢ []) ⊎ IsUnfinished s.held)
 
--- the next message is answered, or none is
-abbrev pub GoesOn : Catalogue → Status → Status → Bool → Type 0
-GoesOn catalogue old new true =
+-- the next message is answered, by an answer of this status, or none is
+abbrev pub GoesOn : Catalogue → Status → Status → Option ℕ → Type 0
+GoesOn catalogue old new (Some status) =
     (message : List ℕ) × (response : Response) × IsNext catalogue old message response × (new ≡ after_answer message response old)
-GoesOn catalogue old new false = (new ≡ old) × Rests old
+    × (status ≡ status_of response.reply)
+GoesOn catalogue old new None = (new ≡ old) × Rests old
 
 -- ---- the end
 

@@ -3,7 +3,7 @@ ghost use Rattle.std.specs.Prelude.{◌≡◌, ◌≤◌, ◌==◌, ◌&&◌, no
 ghost use Rattle.std.specs.List.{starts_with};
 ghost use Rattle.std.specs.Str.{bytes_eq};
 ghost use Rattle.http_range.specs.Response.{asks_close, announces_body, fails_precondition, is_unmodified, lets_range, range_to_serve, part_to_serve};
-ghost use Rattle.http_parts.specs.Fields.{values_of};
+ghost use Rattle.http_fields.specs.Fields.{values_of};
 ghost use Rattle.cog_server.specs.Place.{IsInside};
 
 use http_range::{Request, Resolved, Tag, read_range, resolve};

@@ -1,10 +1,10 @@
 //! The server's end of one connection, without a socket: bytes in, answers out.
 ghost use Rattle.std.specs.Prelude.{◌≡◌, ◌≤◌, ◌<◌, ◌==◌, ◌||◌, ◌++◌, true, IfOk, IsOk, OnOk, OnErr, length};
-ghost use Rattle.http_parts.specs.declared.limits.TheConstants.{ANSWERS_LIMIT, MESSAGE_LIMIT};
+ghost use Rattle.http_fields.specs.declared.limits.TheConstants.{ANSWERS_LIMIT, MESSAGE_LIMIT};
 
-use crate::held::Held;
 use crate::limits::DROP_LIMIT;
 use crate::outgoing::Outgoing;
+use crate::pending_input::PendingInput;
 use crate::served::Ended;
 use crate::server::Server;
 use http_range::{ANSWERS_LIMIT, MESSAGE_LIMIT, Memory};
@@ -21,7 +21,7 @@ fn closes(closed: bool, answers: usize) -> bool
 /// The server's end of one connection. One answer is on its way at a time, and what comes behind its message waits to be answered.
 /// Behind the message with the last answer, what comes is dropped.
 pub struct Connection {
-    held: Held,
+    held: PendingInput,
     outgoing: Outgoing,
     closed: bool,
     answers: usize,
@@ -45,7 +45,7 @@ impl Drop for Connection {
 
 impl Model for Connection {
     ghost use Rattle.std.specs.Prelude.{◌≡◌, ◌≤◌, [], None};
-    ghost use Rattle.http_parts.specs.declared.limits.TheConstants.{ANSWERS_LIMIT};
+    ghost use Rattle.http_fields.specs.declared.limits.TheConstants.{ANSWERS_LIMIT};
     ghost use Rattle.cog_server.specs.declared.limits.TheConstants.{DROP_LIMIT};
     ghost use Rattle.cog_server.specs.Status.{Status};
     ghost use Rattle.cog_server.specs.Outgoing.{waiting_of};
@@ -81,7 +81,7 @@ impl Connection {
         ensures { result ≡ start }
     {
         Connection {
-            held: Held::new(alloc),
+            held: PendingInput::new(alloc),
             outgoing: Outgoing::new(alloc),
             closed: false,
             answers: 0,
@@ -126,20 +126,21 @@ impl Connection {
         self.over = true;
     }
 
-    /// Answers the next message from the server as it stands now, where the message is whole and nothing waits to be written, and
-    /// says whether it did. An error changes nothing, and comes only where there is such a message.
-    pub fn go_on(&mut self, server: &Server) -> Result<bool, Memory>
+    /// Answers the next message from the server as it stands now, and returns the status of the answer. Returns `None` where no
+    /// message is answered: none is whole, the answer before it isn't written, or no answer follows. An error changes nothing, and
+    /// comes only where a message is to be answered.
+    pub fn go_on(&mut self, server: &Server) -> Result<Option<u16>, Memory>
         ensures ok { IfOk result (GoesOn server.now.catalogue self.old self.new) }
         ensures err { OnErr result (self.new ≡ self.old) }
         ensures rests { Rests self.old → IsOk result }
     {
         if closes(self.closed, self.answers) || self.outgoing.is_waiting() {
-            return Ok(false);
+            return Ok(None);
         }
         let Some(n) = self.held.whole() else {
-            return Ok(false);
+            return Ok(None);
         };
-        self.outgoing.answer(server.files(), &self.held.bytes[..n])?;
+        let status = self.outgoing.answer(server.files(), &self.held.bytes[..n])?;
         self.answers += 1;
         self.closed = self.outgoing.close;
         self.held.skip(n);
@@ -147,7 +148,7 @@ impl Connection {
             self.dropped = self.held.bytes.len();
             self.held.skip(self.dropped);
         }
-        Ok(true)
+        Ok(Some(status))
     }
 
     /// What waits to be written, of a head and of a body. The body's bytes stay, whatever is published meanwhile.

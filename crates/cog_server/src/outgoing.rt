@@ -1,9 +1,9 @@
 //! An answer on its way out.
-ghost use Rattle.std.specs.Prelude.{◌≡◌, ◌≤◌, ◌++◌, ◌==◌, [], not, None, OnErr, OnOk, length, drop, map, slice_range};
+ghost use Rattle.std.specs.Prelude.{◌≡◌, ◌≤◌, ◌++◌, ◌==◌, [], not, None, IfOk, OnErr, length, drop, map, slice_range};
 ghost use Rattle.cog_server.specs.Catalogue.{publication};
 ghost use Rattle.cog_server.specs.Outgoing.{IsOutgoing, body_of, waiting_of};
 
-use crate::prepared::prepare;
+use crate::prepared::{prepare, status};
 use crate::published::Published;
 use http_range::{Memory, append_head};
 use std::alloc::Global;
@@ -54,16 +54,18 @@ impl Outgoing {
         self.sent = 0;
     }
 
-    /// Puts the answer to the head at the front of a message in the place of what is there. Its body stays where it is, its head is
-    /// put together where the one before was. After an error nothing waits. Where nothing waits, no file's bytes are held.
-    pub fn answer(&mut self, files: &[Published], message: &[u8]) -> Result<(), Memory>
-        ensures ok { OnOk result (IsOutgoing (map publication files.now) message.now self.new) }
+    /// Puts the answer to the head at the front of a message in the place of what is there, and returns its status. Its body stays
+    /// where it is, its head is put together where the one before was. After an error nothing waits. Where nothing waits, no file's
+    /// bytes are held.
+    pub fn answer(&mut self, files: &[Published], message: &[u8]) -> Result<u16, Memory>
+        ensures ok { IfOk result (IsOutgoing (map publication files.now) message.now self.new) }
         ensures err { OnErr result (waiting_of self.new ≡ []) }
         ensures freed { waiting_of self.new ≡ [] → self.new.file ≡ None }
     {
         self.clear();
         self.head.reserve(HEAD_ROOM)?;
         let prepared = prepare(files, message);
+        let status = status(&prepared.reply);
         let file = match prepared.file {
             Some(file) => Some(file.clone()?),
             None => None,
@@ -76,7 +78,7 @@ impl Outgoing {
         self.first = prepared.first;
         self.end = prepared.end;
         self.close = prepared.close;
-        Ok(())
+        Ok(status)
     }
 
     fn body(&self) -> &[u8]

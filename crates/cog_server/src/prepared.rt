@@ -14,7 +14,7 @@ use crate::cases::{
 use crate::catalogue::find_file;
 use crate::placed::Prepared;
 use crate::published::Published;
-use http_parts::bytes::past;
+use http_fields::bytes::past;
 use http_range::{Reply, Request, Resolved, read_request};
 
 /// The number of the reply's status.
@@ -104,8 +104,12 @@ fn serve<'f>(
 ) -> Prepared<'f>
     requires some { first ≤ end }
     requires inside { end ≤ length (rc_slice_items file.now.file) }
-    ensures { response_of result
-        ≡ record { reply = reply; close = close; name = Some file.now.name.items; body = slice_range (rc_slice_items file.now.file) first end } }
+    ensures { response_of result ≡ record {
+      reply = reply;
+      close = close;
+      name = Some file.now.name.items;
+      body = slice_range (rc_slice_items file.now.file) first end;
+    } }
 {
     Prepared {
         reply,

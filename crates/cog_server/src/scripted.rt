@@ -86,7 +86,8 @@ impl Inlet for ScriptedInlet {
         ensures bytes { script_given self.new ≡ script_given self.old ++ moved result room.new }
         ensures end { IfOk result (λ n. n ≡ 0 → 0 < length room.new → script_given self.new ≡ script_bytes self.new) }
         ensures failed { inlet_failed self.new ≡ (inlet_failed self.old || is_err result) }
-        ensures piece { IfOk result (λ n. take n room.new ≡ take (length room.old) (next_piece (pieces_left self.old) (script_left self.old))) }
+        ensures piece { IfOk result (λ n. take n room.new
+            ≡ take (length room.old) (next_piece (pieces_left self.old) (script_left self.old))) }
         ensures turn { script_left self.old ≢ [] → pieces_left self.new ≡ drop 1 (pieces_left self.old) }
         ensures fails { IsErr result ↔ (script_left self.old ≡ []) × (after_bytes self.old ≡ Failure) }
         ensures script { script_bytes self.new ≡ script_bytes self.old }
@@ -155,7 +156,8 @@ impl ScriptedOutlet {
 
     /// The most bytes that it takes next. None where it fails.
     fn size(&self) -> Option<usize>
-        ensures { (many : ℕ) → many < 2 ^ 64 → option_map (min many) result ≡ next_taken (sizes_left self.now) (after_pieces self.now) many }
+        ensures { (many : ℕ) → many < 2 ^ 64
+            → option_map (min many) result ≡ next_taken (sizes_left self.now) (after_pieces self.now) many }
     {
         match self.pieces.get(self.writes) {
             Some(size) => Some(*size),

@@ -1,7 +1,7 @@
 //! What the loop over a connection does: it reads what comes, and writes what waits.
 ghost use Rattle.std.specs.Prelude.{◌≡◌, ◌≤◌, ◌<◌, ◌++◌, false, true, [], IfOk, IfErr, OnOk, length, max, take};
 ghost use Rattle.std.specs.Io.KnownBytes.{append_known};
-ghost use Rattle.http_parts.specs.declared.limits.TheConstants.{MESSAGE_LIMIT};
+ghost use Rattle.http_fields.specs.declared.limits.TheConstants.{MESSAGE_LIMIT};
 ghost use Rattle.cog_server.specs.Received.{Receives};
 ghost use Rattle.cog_server.specs.Sent.{IsBroken, IsWritten, Writes};
 ghost use Rattle.cog_server.specs.Status.{after_write, room_of};

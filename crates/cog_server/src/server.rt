@@ -15,7 +15,7 @@ use crate::published::Published;
 use crate::serve::{Buffers, receive, send_waiting};
 use crate::served::{ServeError, Served};
 use http_range::{
-    FILE_LIMIT, Memory, Tag, is_name, messages_stay, publication_tag, publications_replace,
+    FILE_LIMIT, Memory, Tag, is_name, law_messages_stay, law_publications_replace, publication_tag,
     write_head,
 };
 use std::alloc::Global;
@@ -125,7 +125,7 @@ impl Server {
         // The files and the answers under every other name are as they were.
         ensures others { OthersStay name.now self.old.catalogue self.new.catalogue }
     {
-        publications_replace();
+        law_publications_replace();
         if let Some(refusal) = self.refusal(name, &file) {
             return Err(refusal);
         }
@@ -202,11 +202,11 @@ impl Server {
         ensures read { R.has_failed r.new ≡ read_failed result }
         ensures write { W.has_failed w.new ≡ write_failed result }
     {
-        messages_stay();
+        law_messages_stay();
         let mut connection = Connection::new(self.alloc);
         let mut buffers = Buffers::new(self.alloc)?;
         'answers: loop {
-            if connection.go_on(self)? {
+            if connection.go_on(self)?.is_some() {
                 send_waiting(&mut connection, &mut buffers.text, w)?;
                 continue;
             }

@@ -1,5 +1,5 @@
 pub mod Number
-pub mod Place
+pub mod FileUrl
 pub mod ReadLine
 pub mod Rules
 pub mod ServeLine

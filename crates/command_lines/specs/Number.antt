@@ -1,6 +1,6 @@
 -- Numbers of command lines.
 use Rattle.std.specs.Prelude.{ℕ, ◌&&◌, if◌then◌else◌, nat_le, List, length, Option, Some, None, option_and_then}
-use Rattle.http_parts.specs.Digits.{number_64}
+use Rattle.http_fields.specs.Digits.{number_64}
 
 -- the number that 1 to 10 decimal digits write, from `least` to `greatest`
 abbrev pub number_from : ℕ → ℕ → List ℕ → Option ℕ

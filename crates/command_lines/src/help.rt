@@ -55,7 +55,7 @@ Exit status:
 /// What `cogworld --help` tells behind its options.
 pub const WORLD_NOTES: &str = "\
 Example:
-  cogtools cogworld one_window.txt
+  cogtools cogworld law_one_window.txt
 
 Exit status:
   0  The log is written

@@ -4,14 +4,14 @@
 mod arguments;
 mod help;
 mod numbers;
-mod place;
 mod read;
 mod serve;
+mod urls;
 mod world;
 
 pub use help::VERSION;
 pub use numbers::number_from;
-pub use place::{Place, PlaceError, is_url, place_of};
 pub use read::{AskedWords, ReadLine, WindowWords, read_line};
 pub use serve::{ServeLine, serve_line};
+pub use urls::{FileUrl, FileUrlError, file_url, is_url};
 pub use world::{WorldLine, world_line};

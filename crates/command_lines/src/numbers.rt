@@ -2,7 +2,7 @@
 ghost use Rattle.std.specs.Prelude.{◌≡◌};
 ghost use Rattle.command_lines.specs.Number.{number_from};
 
-use http_parts::digits::number_64;
+use http_fields::digits::number_64;
 
 /// The number that a word of 1 to 10 decimal digits writes, if it is from `least` to `greatest`.
 pub fn number_from(word: &str, least: u32, greatest: u32) -> Option<u32>

@@ -8,17 +8,17 @@ use Rattle.std.specs.contracts.impls.GlobalAllocator.TheImpl.{ghosts, dict}
 use Rattle.std.proofs.alloc.Global.TheLaws as heap
 use Rattle.cog_client.specs.contracts.client.Client as Client
 use Rattle.cog_client.proofs.client.Client.TheLaws as client
-use Rattle.delgunsai_c.specs.contracts.parts.Parts as Parts
-use Rattle.delgunsai_c.specs.contracts.place.Place as Place
+use Rattle.delgunsai_c.specs.contracts.parts.RawParts as RawParts
+use Rattle.delgunsai_c.specs.contracts.client_pointer.ClientPointer as ClientPointer
 
 abbrev pub E : Bx
 E = record { row = Client.the_row; laws = client.the_row_laws; al = record { row = Heap.the_row; laws = heap.the_row_laws; g = ghosts; d = dict; drops = impl [] tnil dnil } }
 
 abbrev pub FromParts : Slot 0
-FromParts = plain (λ _. Parts.the_row Client.the_row Heap.the_row ghosts)
+FromParts = plain (λ _. RawParts.the_row Client.the_row Heap.the_row ghosts)
 
 abbrev pub FromPlace : Slot 0
-FromPlace = plain (λ _. Place.the_row)
+FromPlace = plain (λ _. ClientPointer.the_row)
 
 abbrev pub FromHeap : Slot 0
 FromHeap = plain (λ _. Heap.the_row)

@@ -7,7 +7,7 @@ use Rattle.cog_client.specs.declared.delivered.Delivered.TheVariants.{Ignored}
 use Rattle.cog_client.specs.Check.{IsCurrent, IsStillThere}
 use Rattle.cog_client.specs.Client.{ClientState, feed_of, tag_of}
 use Rattle.cog_client.specs.FedClient.{Fed}
-use Rattle.cog_client.specs.Feeding.{cut_off, nothing_fed, rest_dropped}
+use Rattle.cog_client.specs.AnswerPhase.{cut_off, nothing_fed, rest_dropped}
 use Rattle.cog_client.specs.Keeps.{DeliversKeeping, StopsDelivery}
 use Rattle.delgunsai_c.specs.declared.said.Said.{Said}
 use Rattle.delgunsai_c.specs.Calls.{Stopped}

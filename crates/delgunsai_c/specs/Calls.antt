@@ -3,10 +3,10 @@ use Rattle.std.specs.Prelude.{◌≡◌, ◌⊎◌, ℕ, ℤ, pos, List, ◌++�
 use Rattle.cog_client.specs.declared.error.ClientError.{ClientError}
 use Rattle.cog_client.specs.Calls.{Starts}
 use Rattle.cog_client.specs.Check.{check_of}
-use Rattle.cog_client.specs.Arrival.{IsBounded}
+use Rattle.cog_client.specs.PartialAnswer.{IsBounded}
 use Rattle.cog_client.specs.Client.{ClientState, IsClientRefusal, client_refusal, feed_of, query_of, report_of, tag_of}
 use Rattle.cog_client.specs.FedClient.{Fed}
-use Rattle.cog_client.specs.Feeding.{rest_dropped}
+use Rattle.cog_client.specs.AnswerPhase.{rest_dropped}
 use Rattle.cog_client.specs.Keeps.{RequestsKeeping, StopsAsking, StopsDelivery}
 use Rattle.cog_client.specs.Early.{AreEarlyRequests, AsksNothingEarly}
 use Rattle.delgunsai_c.specs.declared.failure.Failure.{Failure}

@@ -7,7 +7,7 @@ use Rattle.cog_reader.specs.declared.outcome.Outcome.TheVariants.{Window, Info, 
 use Rattle.cog_client.specs.declared.report.Report.{Report}
 use Rattle.cog_client.specs.Client.{ClientState, report_of}
 use Rattle.cog_client.specs.Keeps.{Stands}
-use Rattle.report_text.specs.InfoText.{IsOfTag}
+use Rattle.text_report.specs.InfoText.{IsOfTag}
 use Rattle.delgunsai_c.specs.declared.failure.Failure.TheVariants.{Memory, NoReport, OtherReport}
 use Rattle.delgunsai_c.specs.declared.reports.Told.{Told}
 use Rattle.delgunsai_c.specs.Failure.{code_of}

@@ -1,8 +1,8 @@
 //! What C holds of a client.
 ghost use Rattle.std.specs.Prelude.{◌≡◌, ◌↔◌, None, Some, IfSome, IsSome, IsTrue};
 
-use crate::parts::Parts;
-use crate::place::Place;
+use crate::client_pointer::ClientPointer;
+use crate::parts::RawParts;
 use cog_client::Client;
 use std::alloc::Global;
 
@@ -10,7 +10,7 @@ use std::alloc::Global;
 #[repr(C)]
 #[derive(Drop)]
 pub struct Handle {
-    place: Place,
+    place: ClientPointer,
     full: bool,
     ghost known: { IsTrue full ↔ IsSome place.inside },
 }
@@ -23,7 +23,7 @@ impl Handle {
         ensures { client_of result ≡ None }
     {
         Handle {
-            place: Place::none(alloc),
+            place: ClientPointer::none(alloc),
             full: false,
         }
     }
@@ -48,7 +48,7 @@ impl Handle {
         ensures { client_of self.new ≡ Some client.value }
     {
         *self = Handle {
-            place: Place::of_parts(Parts::of(client)),
+            place: ClientPointer::of_parts(RawParts::of(client)),
             full: true,
         };
     }

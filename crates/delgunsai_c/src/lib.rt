@@ -2,13 +2,13 @@
 #![tactic(auto)]
 
 mod answers;
+mod client_pointer;
 mod failure;
 mod handle;
 mod laying;
 mod making;
 mod pairs;
 mod parts;
-mod place;
 mod queries;
 mod reports;
 mod requests;

@@ -6,32 +6,32 @@ use std::alloc::Allocator;
 use std::marker::Model;
 
 /// The address of a value in the heap, which it owns, and the allocator that frees it.
-pub struct Parts<T, A: Allocator> {
+pub struct RawParts<T, A: Allocator> {
     pub ptr: *mut T,
     pub alloc: A,
     pub ghost value: { T },
 }
 
-impl<T, A: Allocator> Model for Parts<T, A> {
+impl<T, A: Allocator> Model for RawParts<T, A> {
     ghost also_owns = { λ p. box_owns (A.dealloc_token p.alloc) T.row p.ptr p.value };
 }
 
-impl<T, A: Allocator> Parts<T, A> {
+impl<T, A: Allocator> RawParts<T, A> {
     /// The parts of a box.
-    pub fn of(b: Box<T, A>) -> Parts<T, A>
+    pub fn of(b: Box<T, A>) -> RawParts<T, A>
     where
         T: Drop,
         ensures { result.value ≡ b.value }
     {
         let (ptr, alloc) = Box::into_raw_with_allocator(b);
-        Parts { ptr, alloc }
+        RawParts { ptr, alloc }
     }
 
     /// The box again.
     pub fn into_box(self) -> Box<T, A>
         ensures { result.value ≡ self.value }
     {
-        let Parts { ptr, alloc } = self;
+        let RawParts { ptr, alloc } = self;
         unsafe { Box::from_raw(alloc, ptr) }
     }
 }

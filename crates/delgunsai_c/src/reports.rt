@@ -8,8 +8,8 @@ use crate::failure::Failure;
 use crate::handle::Handle;
 use crate::laying::lay;
 use cog_client::{Client, Outcome};
-use report_text::info_text;
 use std::alloc::Global;
+use text_report::info_text;
 
 /// What a report tells, in numbers.
 #[repr(C)]

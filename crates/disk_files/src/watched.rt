@@ -14,7 +14,7 @@ ghost use Rattle.disk_files.specs.Watching.{IsRefusedBy, MayPass, seen_of};
 use crate::reading::{bytes_of, has_bytes};
 use crate::stamp::{Stamp, is_unchanged, stamp_of};
 use cog_server::{PublishError, Server};
-use http_range::{Tag, publications_replace};
+use http_range::{Tag, law_publications_replace};
 use std::alloc::Global;
 use std::fs::{self, File, Metadata, OpenFile};
 use std::io;
@@ -95,7 +95,7 @@ fn publish_other(
     ensures err { OnErr result (server.new ≡ server.old) }
     ensures refused { IfErr result (IsRefusal (refusal_of server.old.count server.old.catalogue name.now file.items)) }
 {
-    publications_replace();
+    law_publications_replace();
     if let Some(old) = server.file(name)
         && old == file.as_slice()
     {
@@ -135,7 +135,7 @@ impl<'a> Watched<'a> {
         ensures name { self.new.name ≡ self.old.name }
         ensures path { self.new.path ≡ self.old.path }
     {
-        publications_replace();
+        law_publications_replace();
         let bytes = bytes_of(alloc, file).map_err(WatchError::CantRead)?;
         match server.publish(self.name.as_bytes(), bytes) {
             Ok(tag) => {

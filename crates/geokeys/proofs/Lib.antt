@@ -1,4 +1,4 @@
-pub mod Head
+pub mod KeyDirectoryHeader
 pub mod Numbers
 pub mod Unique
 pub mod Chunks

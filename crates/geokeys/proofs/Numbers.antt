@@ -9,15 +9,15 @@ use Rattle.tiff_dir.specs.declared.fault.FileFault.TheVariants.{KeyHead, KeyOrde
 use Rattle.tiff_dir.specs.Number.{number_in}
 use Rattle.tiff_dir.specs.File.{◌>>=◌}
 use Rattle.tiff_dir.specs.Keys.{KeySource, key_number, IsBadKeyHead, IsMisplaced, IsFaultOfKeys}
-use Rattle.geokeys.specs.declared.entry.Head.{Head}
-use Rattle.geokeys.specs.declared.entry.Entry.{Entry}
+use Rattle.geokeys.specs.declared.entry.KeyDirectoryHeader.{KeyDirectoryHeader}
+use Rattle.geokeys.specs.declared.entry.KeyEntry.{KeyEntry}
 use Rattle.geokeys.specs.declared.geo.Geo.{Geo}
 use Rattle.tiff_dir.specs.declared.fault.WalkError.{WalkError as GeoError}
 use Rattle.tiff_dir.specs.declared.fault.WalkError.TheVariants.{File, Memory}
 use Rattle.geokeys.specs.declared.geo.Key.{Key}
 use Rattle.geokeys.specs.Keys.{number_at, key_source, IsValue, IsKey, AreKeys, IsKeyError}
-use Rattle.geokeys.specs.Entry.{IsHead, entry_at, only_items, IsPlaced, IsRefusal}
-use Rattle.geokeys.proofs.Head.{some_and, and_some, number_there, good_head}
+use Rattle.geokeys.specs.KeyEntry.{IsHead, entry_at, only_items, IsPlaced, IsRefusal}
+use Rattle.geokeys.proofs.KeyDirectoryHeader.{some_and, and_some, number_there, good_head}
 
 none_past : (o : Option ℕ) → (o >>= (λ (v : ℕ). cond false (Some v) None)) ≡ None
 none_past (Some v) = refl
@@ -40,7 +40,7 @@ number_past s n i j count le =
     ∙ none_past (s.value (4 + 4 * i + j))
 
 -- number j of key i, which stands at this place
-pub key_is : (order : Order) (d doubles ascii : List ℕ) (head : Head) (i j at : ℕ) → IsHead order d head → i < head.keys → j < 4 → at ≡ 8 * i + 8 + 2 * j →
+pub key_is : (order : Order) (d doubles ascii : List ℕ) (head : KeyDirectoryHeader) (i j at : ℕ) → IsHead order d head → i < head.keys → j < 4 → at ≡ 8 * i + 8 + 2 * j →
     key_number (key_source order d doubles ascii) i j ≡ Some (number_in order at 2 d)
 key_is order d doubles ascii head i j at is lt four place =
     let there : 2 * (4 + 4 * i + j) + 2 ≤ length d = omega (arith, is.size) in
@@ -58,7 +58,7 @@ Ascend order d n = (k : ℕ) → k + 1 < n → (entry_at order d k).id < (entry_
 abbrev pub ArePlaced : Order → List ℕ → List ℕ → List ℕ → ℕ → Type 0
 ArePlaced order d doubles ascii n = (k : ℕ) → k < n → IsPlaced doubles ascii (entry_at order d k)
 
-in_order : (order : Order) (d doubles ascii : List ℕ) (head : Head) → IsHead order d head → Ascend order d head.keys → IsFaultOfKeys (key_source order d doubles ascii) KeyOrder → ⊥
+in_order : (order : Order) (d doubles ascii : List ℕ) (head : KeyDirectoryHeader) → IsHead order d head → Ascend order d head.keys → IsFaultOfKeys (key_source order d doubles ascii) KeyOrder → ⊥
 in_order order d doubles ascii head is ascend bad =
     let s = key_source order d doubles ascii in
     let i = bad.0 in
@@ -84,7 +84,7 @@ misplaced_by s a b c d e f x y z bad =
 no_place : (s : KeySource) (a b c : Option ℕ) → a ≡ None → IsMisplaced s a b c → ⊥
 no_place s a b c none bad = subst (λ (o : Option ℕ). IsMisplaced s o b c) none bad
 
-in_place : (order : Order) (d doubles ascii : List ℕ) (head : Head) → IsHead order d head → ArePlaced order d doubles ascii head.keys → IsFaultOfKeys (key_source order d doubles ascii) KeyPlace → ⊥
+in_place : (order : Order) (d doubles ascii : List ℕ) (head : KeyDirectoryHeader) → IsHead order d head → ArePlaced order d doubles ascii head.keys → IsFaultOfKeys (key_source order d doubles ascii) KeyPlace → ⊥
 in_place order d doubles ascii head is placed bad =
     let s = key_source order d doubles ascii in
     let i = bad.0 in
@@ -98,7 +98,7 @@ in_place order d doubles ascii head is placed bad =
       | inr le ↦ no_place s (key_number s i 1) (key_number s i 2) (key_number s i 3) (number_past s head.keys i 1 is.keys le) bad.1
     ]
 
-pub no_fault : (order : Order) (d doubles ascii : List ℕ) (head : Head) → IsHead order d head → Ascend order d head.keys → ArePlaced order d doubles ascii head.keys →
+pub no_fault : (order : Order) (d doubles ascii : List ℕ) (head : KeyDirectoryHeader) → IsHead order d head → Ascend order d head.keys → ArePlaced order d doubles ascii head.keys →
     (fault : FileFault) → IsFaultOfKeys (key_source order d doubles ascii) fault → ⊥
 no_fault order d doubles ascii head is ascend placed KeyHead bad = good_head order d doubles ascii head is bad
 no_fault order d doubles ascii head is ascend placed KeyOrder bad = in_order order d doubles ascii head is ascend bad
@@ -157,7 +157,7 @@ each_push P (k ∷ ks) key each here zero = each 0
 each_push P (k ∷ ks) key each here (suc i) = each_push (λ n. P (suc n)) ks key (λ n. each (suc n)) here i
 
 -- one key more
-pub keys_next : (order : Order) (d doubles ascii : List ℕ) (head : Head) (ks ks' : List Key) (key : Key) (i : ℕ) → IsHead order d head → i < head.keys → length ks ≡ i →
+pub keys_next : (order : Order) (d doubles ascii : List ℕ) (head : KeyDirectoryHeader) (ks ks' : List Key) (key : Key) (i : ℕ) → IsHead order d head → i < head.keys → length ks ≡ i →
     ((k : ℕ) → IfSome (slice_get ks k) (IsKey (key_source order d doubles ascii) order doubles ascii k)) → ks' ≡ ks ++ key ∷ [] → key.id ≡ (entry_at order d i).id →
     IsValue order doubles ascii (entry_at order d i).location (entry_at order d i).count (entry_at order d i).first key.value →
     (k : ℕ) → IfSome (slice_get ks' k) (IsKey (key_source order d doubles ascii) order doubles ascii k)
@@ -176,7 +176,7 @@ keys_next order d doubles ascii head ks ks' key i is lt size each next id value 
     subst (λ (l : List Key). IfSome (slice_get l k) (IsKey (key_source order d doubles ascii) order doubles ascii k)) (sym next)
     (each_push (IsKey (key_source order d doubles ascii) order doubles ascii) ks key each (subst (λ n. IsKey (key_source order d doubles ascii) order doubles ascii n key) (sym size) here) k)
 
-pub keys_all : (order : Order) (d doubles ascii : List ℕ) (head : Head) (geo : Geo) → IsHead order d head → geo.minor ≡ head.minor → length geo.keys.items ≡ head.keys →
+pub keys_all : (order : Order) (d doubles ascii : List ℕ) (head : KeyDirectoryHeader) (geo : Geo) → IsHead order d head → geo.minor ≡ head.minor → length geo.keys.items ≡ head.keys →
     ((k : ℕ) → IfSome (slice_get geo.keys.items k) (IsKey (key_source order d doubles ascii) order doubles ascii k)) → AreKeys (key_source order d doubles ascii) order doubles ascii geo
 keys_all order d doubles ascii head geo is minor count each = record {
   minor_is = minor ∙ sym (ap (λ (o : Option ℕ). unwrap_or o 0) is.minor);
@@ -186,7 +186,7 @@ keys_all order d doubles ascii head geo is minor count each = record {
 
 -- ---- the faults of a key
 
-pub bad_order : (order : Order) (d doubles ascii : List ℕ) (head : Head) (k : ℕ) → IsHead order d head → k + 1 < head.keys → (entry_at order d (k + 1)).id ≤ (entry_at order d k).id →
+pub bad_order : (order : Order) (d doubles ascii : List ℕ) (head : KeyDirectoryHeader) (k : ℕ) → IsHead order d head → k + 1 < head.keys → (entry_at order d (k + 1)).id ≤ (entry_at order d k).id →
     IsFaultOfKeys (key_source order d doubles ascii) KeyOrder
 bad_order order d doubles ascii head k is lt le =
     let s = key_source order d doubles ascii in
@@ -197,7 +197,7 @@ bad_order order d doubles ascii head k is lt le =
           (some_and (key_number s (k + 1) 0) b (λ n. nat_lt a n ≡ false) (key_is order d doubles ascii head (k + 1) 0 (8 * (k + 1) + 8) is lt (omega arith) (omega arith)) (le-ltb a b le)),
     )
 
-pub bad_place : (order : Order) (d doubles ascii : List ℕ) (head : Head) (k : ℕ) → IsHead order d head → k < head.keys →
+pub bad_place : (order : Order) (d doubles ascii : List ℕ) (head : KeyDirectoryHeader) (k : ℕ) → IsHead order d head → k < head.keys →
     IsMisplaced (only_items doubles ascii) (Some (entry_at order d k).location) (Some (entry_at order d k).count) (Some (entry_at order d k).first) → IsFaultOfKeys (key_source order d doubles ascii) KeyPlace
 bad_place order d doubles ascii head k is lt bad =
     let s = key_source order d doubles ascii in
@@ -210,12 +210,12 @@ bad_place order d doubles ascii head k is lt bad =
     )
 
 -- the value of key k is refused
-pub value_refused : (order : Order) (d doubles ascii : List ℕ) (head : Head) (k : ℕ) (entry : Entry) (error : GeoError) → IsHead order d head → k < head.keys → entry ≡ entry_at order d k →
+pub value_refused : (order : Order) (d doubles ascii : List ℕ) (head : KeyDirectoryHeader) (k : ℕ) (entry : KeyEntry) (error : GeoError) → IsHead order d head → k < head.keys → entry ≡ entry_at order d k →
     IsRefusal doubles ascii entry error → IsKeyError (key_source order d doubles ascii) error
 value_refused order d doubles ascii head k entry (File fault) is lt same bad =
     let s = key_source order d doubles ascii in
     let misplaced = bad_place order d doubles ascii head k is lt
-    (subst (λ (e : Entry). IsMisplaced (only_items doubles ascii) (Some e.location) (Some e.count) (Some e.first)) same bad.1) in
+    (subst (λ (e : KeyEntry). IsMisplaced (only_items doubles ascii) (Some e.location) (Some e.count) (Some e.first)) same bad.1) in
     subst (λ (f : FileFault). IsFaultOfKeys s f) (sym bad.0) misplaced
 value_refused order d doubles ascii head k entry Memory is lt same bad = tt
 
@@ -235,6 +235,6 @@ ascend_next order d i before here k lt = elim (cases_lt (k + 1) i) [
       (subst (λ n. (entry_at order d n).id < (entry_at order d i).id) last (here (omega arith)))
 ]
 
-pub placed_next : (order : Order) (d doubles ascii : List ℕ) (i : ℕ) (entry : Entry) → ArePlaced order d doubles ascii i → entry ≡ entry_at order d i → IsPlaced doubles ascii entry →
+pub placed_next : (order : Order) (d doubles ascii : List ℕ) (i : ℕ) (entry : KeyEntry) → ArePlaced order d doubles ascii i → entry ≡ entry_at order d i → IsPlaced doubles ascii entry →
     ArePlaced order d doubles ascii (i + 1)
-placed_next order d doubles ascii i entry before same here = below_more (λ k. IsPlaced doubles ascii (entry_at order d k)) i before (subst (λ (e : Entry). IsPlaced doubles ascii e) same here)
+placed_next order d doubles ascii i entry before same here = below_more (λ k. IsPlaced doubles ascii (entry_at order d k)) i before (subst (λ (e : KeyEntry). IsPlaced doubles ascii e) same here)

@@ -49,9 +49,9 @@ one_list P (a ∷ xs) (b ∷ ys) same size each other =
     let rest = one_list (λ i. P (suc i)) xs ys (λ i. same (suc i)) (omega (arith, size)) (λ i. each (suc i)) (λ i. other (suc i)) in
     λ i. head i ∷ rest i
 
-pub one_geo : (s : KeySource) (order : Order) (doubles ascii : List ℕ) (a b : Geo) → AreKeys s order doubles ascii a → AreKeys s order doubles ascii b →
+pub law_one_geo : (s : KeySource) (order : Order) (doubles ascii : List ℕ) (a b : Geo) → AreKeys s order doubles ascii a → AreKeys s order doubles ascii b →
     (a.minor ≡ b.minor) × (contents a.keys.items ≡ contents b.keys.items)
-one_geo s order doubles ascii a b is other = (
+law_one_geo s order doubles ascii a b is other = (
   is.minor_is ∙ sym other.minor_is,
   one_list (IsKey s order doubles ascii) a.keys.items b.keys.items (one_key s order doubles ascii) (is.count_is ∙ sym other.count_is) is.each other.each,
 )

@@ -1,4 +1,4 @@
 pub mod Doubles
 pub mod Keys
-pub mod Entry
+pub mod KeyEntry
 pub mod Same

@@ -3,14 +3,14 @@ ghost use Rattle.std.specs.Prelude.{◌≡◌, ◌+◌, ◌*◌, ◌%◌, ◌<�
 ghost use Rattle.tiff_dir.specs.Number.{number_in};
 ghost use Rattle.tiff_dir.specs.Keys.{IsBadKeyHead};
 ghost use Rattle.geokeys.specs.Keys.{key_source};
-ghost use Rattle.geokeys.specs.Entry.{IsHead, entry_at};
+ghost use Rattle.geokeys.specs.KeyEntry.{IsHead, entry_at};
 
 use byteorder::{BigEndian, ByteOrder, LittleEndian};
 use tiff_dir::{FileFault, Order};
 
 /// What the head of a directory says.
 #[derive(Clone, Copy)]
-pub struct Head {
+pub struct KeyDirectoryHeader {
     pub minor: u16,
     /// How many keys there are.
     pub keys: u16,
@@ -18,7 +18,7 @@ pub struct Head {
 
 /// What the directory says of a key.
 #[derive(Clone, Copy)]
-pub struct Entry {
+pub struct KeyEntry {
     pub id: u16,
     pub location: u16,
     pub count: u16,
@@ -37,7 +37,7 @@ fn short_at(order: Order, bytes: &[u8], at: usize) -> u16
 }
 
 /// The head of a directory that isn't empty.
-pub fn head_of(order: Order, directory: &[u8]) -> Result<Head, FileFault>
+pub fn head_of(order: Order, directory: &[u8]) -> Result<KeyDirectoryHeader, FileFault>
     requires some { 0 < length directory.now }
     requires even { length directory.now % 2 ≡ 0 }
     ensures { MatchResult result
@@ -54,16 +54,16 @@ pub fn head_of(order: Order, directory: &[u8]) -> Result<Head, FileFault>
         return Err(FileFault::KeyHead);
     }
     let minor = short_at(order, directory, 4);
-    Ok(Head { minor, keys })
+    Ok(KeyDirectoryHeader { minor, keys })
 }
 
 /// What the directory says of key `i`.
-pub fn entry_at(order: Order, directory: &[u8], i: usize) -> Entry
+pub fn entry_at(order: Order, directory: &[u8], i: usize) -> KeyEntry
     requires { 8 * i + 16 ≤ length directory.now }
     ensures { result ≡ entry_at order directory.now i }
 {
     let at = 8 * i + 8;
-    Entry {
+    KeyEntry {
         id: short_at(order, directory, at),
         location: short_at(order, directory, at + 2),
         count: short_at(order, directory, at + 4),

@@ -61,7 +61,8 @@ impl Geo {
         requires shorts { length directory.now % 2 ≡ 0 }
         requires doubles { length doubles.now % 8 ≡ 0 }
         ensures keys { IfOk result (AreKeys (key_source order directory.now doubles.now ascii.now) order doubles.now ascii.now) }
-        ensures sound { IfOk result (λ _. (fault : Fault) → IsFaultOfKeys (key_source order directory.now doubles.now ascii.now) fault → ⊥) }
+        ensures sound { IfOk result (λ _. (fault : Fault)
+            → IsFaultOfKeys (key_source order directory.now doubles.now ascii.now) fault → ⊥) }
         ensures refused { IfErr result (IsKeyError (key_source order directory.now doubles.now ascii.now)) }
         // Where there are no keys no memory is wanted.
         ensures sure { length directory.now ≡ 0 → IsOk result }

@@ -3,13 +3,14 @@ ghost use Rattle.std.specs.Prelude.{◌≡◌, ◌+◌, ◌*◌, ◌%◌, ◌<�
 ghost use Rattle.std.specs.List.{slice_range};
 ghost use Rattle.geokeys.specs.Doubles.{big_first, doubles_in};
 ghost use Rattle.geokeys.specs.Keys.{IsValue};
-ghost use Rattle.geokeys.specs.Entry.{IsPlaced, IsRefusal};
+ghost use Rattle.geokeys.specs.KeyEntry.{IsPlaced, IsRefusal};
 
-use crate::entry::Entry;
+use crate::entry::KeyEntry;
 use crate::{GeoError, KeyValue};
+use extents::Memory;
 use std::alloc::Global;
 use tiff_dir::tags::{GEO_ASCII_PARAMS, GEO_DOUBLE_PARAMS};
-use tiff_dir::{FileFault, Memory, Order};
+use tiff_dir::{FileFault, Order};
 
 /// The location of a value that stands in the directory itself.
 const DIRECTORY: u16 = 0;
@@ -59,7 +60,7 @@ fn part(bytes: &[u8], from: usize, to: usize) -> Option<&[u8]>
 pub fn value_of(
     alloc: Global,
     order: Order,
-    entry: Entry,
+    entry: KeyEntry,
     doubles: &[u8],
     ascii: &[u8],
 ) -> Result<KeyValue, GeoError>

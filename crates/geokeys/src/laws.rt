@@ -2,6 +2,6 @@
 ghost use Rattle.geokeys.specs.Same.{KeysAreUnique};
 
 /// What keys are read from has one minor revision and one list of keys.
-pub fn one_geo()
+pub fn law_one_geo()
     ensures keys { KeysAreUnique }
 {}

@@ -8,6 +8,6 @@ mod laws;
 
 pub use geo::{Geo, Key, KeyValue};
 pub use items::doubles;
-pub use laws::one_geo;
+pub use laws::law_one_geo;
 /// Why there are no keys: the directory has the fault, or no memory was left.
 pub use tiff_dir::WalkError as GeoError;

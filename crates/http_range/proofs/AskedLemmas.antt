@@ -1,7 +1,7 @@
 -- What a server answers to a client's request.
 use Rattle.std.proofs.Common.{◌≡◌, ℕ, ◌-◌, ◌^◌, ◌<◌, ◌≤◌, min, Bool, true, false, cond, ◌||◌, List, [], ◌∷◌, ◌++◌, length, drop, suc, refl, sym, ap, ◌∙◌, subst, append-nil, Option, Some, None}
 use Rattle.std.specs.Prelude.{◌↔◌, option_and_then}
-use Rattle.http_parts.specs.Members.{members}
+use Rattle.http_fields.specs.Members.{members}
 use Rattle.std.proofs.Math.Dec.{ltb}
 use Rattle.std.specs.Str.{bytes_eq}
 use Rattle.httparse.specs.Grammar.{trim_ows}
@@ -14,9 +14,9 @@ use Rattle.http_range.specs.Book.{Publication, Catalogue, published}
 use Rattle.http_range.specs.Response.{Response, ending, refused, serve_part, serve_file, answer_by, is_current, response_to_client, response_to_check, IsAnswer, with_tag}
 use Rattle.http_range.specs.Stream.{AreAnswers, IsAnswered, IsFirstMessage}
 use Rattle.http_range.specs.Stream.AreAnswers.{unfinished, closed, more as goes_on}
-use Rattle.http_parts.specs.declared.limits.TheConstants.{ANSWERS_LIMIT}
+use Rattle.http_fields.specs.declared.limits.TheConstants.{ANSWERS_LIMIT}
 use Rattle.http_range.specs.Laws.{ClientsAreAnswered, RequestsAreAnswered, ChecksAreAnswered, ClientsAreServed, OpenClientsAreServed, ChecksAreServed}
-use Rattle.http_parts.specs.Laws.{PartsAreRead}
+use Rattle.http_fields.specs.Laws.{PartsAreRead}
 use Rattle.http_range.proofs.RangeLemmas.{range_spec-range_value}
 use Rattle.http_range.proofs.RequestLemmas.{asked_first, asked_read, asked_has, checked_first, checked_read, checked_has}
 use Rattle.http_range.proofs.MessageLemmas.{no_message, one_message}

@@ -12,10 +12,10 @@ use Rattle.std.proofs.lemmas.List.Folds.{list_all-append}
 use Rattle.std.proofs.lemmas.Slice.Eq.{bytes_eq-Decides}
 use Rattle.std.proofs.lemmas.List.Sums.{AllPass-from_list_all}
 use Rattle.httparse.proofs.GrammarLemmas.{cons-append}
-use Rattle.http_parts.specs.Tag.{is_tag_byte, is_opaque_tag, is_kept_tag}
+use Rattle.http_fields.specs.Tag.{is_tag_byte, is_opaque_tag, is_kept_tag}
 use Rattle.http_range.specs.Book.{Publication, IsPublication, Book, In, Catalogue, IsCatalogue, published, publish, publication_tag}
 use Rattle.http_range.specs.Laws.{TagsTellOne, TagsTellPublications, PublicationTagsAreKept, PublishReplaces, PublishedIsNamed}
-use Rattle.http_parts.specs.Laws.{PartsAreRead}
+use Rattle.http_fields.specs.Laws.{PartsAreRead}
 use Rattle.http_range.proofs.PlaceLemmas.{digit_range, digits_miss, before_at, after_at}
 use Rattle.http_range.proofs.ReplyLemmas.{length_20}
 
@@ -168,8 +168,8 @@ module _ (laws : PartsAreRead) where
             ∙ before_at (λ b. eqb b 34) y 34 [] quote refl;
       })
 
-  pub tags_tell_publications : TagsTellPublications
-  tags_tell_publications e n f m se sn sf sm same =
+  pub law_tags_tell_publications : TagsTellPublications
+  law_tags_tell_publications e n f m se sn sf sm same =
       let a = tag_numbers e n se sn in
       let b = tag_numbers f m sf sm in (
         decimal_injective e f se sf

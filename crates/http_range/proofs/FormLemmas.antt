@@ -9,7 +9,7 @@ use Rattle.std.proofs.lemmas.Bool.{lt-ltb, le-leb, ltb-true, ltb-false, leb-true
 use Rattle.std.proofs.lemmas.List.{drop_all}
 use Rattle.std.proofs.lemmas.List.Sums.{split_at_first, passes_at_first}
 use Rattle.http_range.specs.declared.reading.ContentRange.{ContentRange}
-use Rattle.http_parts.specs.Digits.{number_64}
+use Rattle.http_fields.specs.Digits.{number_64}
 use Rattle.http_range.specs.ContentRange.{IsContentRange, range_of_numbers, range_of}
 use Rattle.http_range.specs.Laws.{ContentRangesAreForms}
 use Rattle.http_range.proofs.PlaceLemmas.{before_at, after_at, digits_miss}

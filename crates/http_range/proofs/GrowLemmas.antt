@@ -9,8 +9,8 @@ use Rattle.httparse.proofs.GrammarLemmas.{print_response-append, ReadsResponse-a
 use Rattle.http_range.specs.declared.reading.Why.{Why}
 use Rattle.http_range.specs.declared.reading.Why.TheVariants.{Cut, Head, Status, NoTag, WeakTag, TagTooLong, NoRange, NoLength, Coding}
 use Rattle.http_range.specs.declared.reading.ContentRange.{ContentRange}
-use Rattle.http_parts.specs.declared.limits.TheConstants.{TAG_LIMIT}
-use Rattle.http_parts.specs.Tag.{is_entity_tag, is_weak_tag}
+use Rattle.http_fields.specs.declared.limits.TheConstants.{TAG_LIMIT}
+use Rattle.http_fields.specs.Tag.{is_entity_tag, is_weak_tag}
 use Rattle.http_range.specs.Head.{SeenHead, IsHeadOf, seen_head, FindsHead}
 use Rattle.http_range.specs.Piece.{◌>>=◌}
 use Rattle.http_range.specs.Announced.{Announced, announced_by, body_behind, FitsFront}
@@ -326,8 +326,8 @@ behind_none front more head none reads =
           absurd (let wrong : false ≡ true = headless_is (Ok head) (none (Ok head) there) in cc)
     ]
 
-pub heads_grow : HeadsGrow
-heads_grow = record {
+pub law_heads_grow : HeadsGrow
+law_heads_grow = record {
   stays = stays;
   decided = decided;
   one = one;

@@ -6,8 +6,8 @@ use Rattle.httparse.specs.declared.spans.ResponseSpans.{ResponseSpans}
 use Rattle.httparse.specs.declared.spans.RequestSpans.{RequestSpans}
 use Rattle.httparse.specs.Grammar.{Field, RequestHead, ResponseHead, HasNoResponse, MayBecomeResponse}
 use Rattle.httparse.specs.Spans.{header_bytes, name_and_value, span_bytes, IsResponseOf, IsRequestOf, AreFieldsAt}
-use Rattle.http_parts.specs.Text.{FieldLine}
-use Rattle.http_parts.specs.Fields.{fields_at}
+use Rattle.http_fields.specs.Text.{FieldLine}
+use Rattle.http_fields.specs.Fields.{fields_at}
 use Rattle.http_range.specs.Seen.{SeenRequest, IsRequestFront, seen_request}
 use Rattle.http_range.specs.declared.reading.Why.TheVariants.{Cut}
 use Rattle.http_range.specs.Head.{SeenHead, IsHeadOf, seen_head, FindsHead}

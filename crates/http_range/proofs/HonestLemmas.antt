@@ -12,7 +12,7 @@ use Rattle.http_range.specs.Book.{Publication, Book, In, Includes, Covers, Catal
 use Rattle.http_range.specs.Response.{Response, text_of, IsAnswer}
 use Rattle.http_range.specs.Honest.{IsFront, IsHonest, IsPieceOf, IsPieceOfBook}
 use Rattle.http_range.specs.Laws.{FrontsAreRead, ChecksAreRead, HonestyIsKept}
-use Rattle.http_parts.specs.Laws.{PartsAreRead}
+use Rattle.http_fields.specs.Laws.{PartsAreRead}
 use Rattle.http_range.proofs.BookLemmas.{published_lawful, tags_tell_one}
 use Rattle.http_range.proofs.RoundTrip.{front_head, front_read, front_checked}
 use Rattle.http_range.proofs.ResponseLemmas.{Kind, IsRefusal, IsFileAnswer, kind_of, front_same, front_trans}
@@ -189,8 +189,8 @@ answer_honest catalogue book message s name lawful covers answers named = record
 kind_in : (text name : List ℕ) (book : Book) (h : IsHonest text name book) → Kind h.catalogue h.response
 kind_in text name book h = subst (Kind h.catalogue) (sym h.answers.2) (kind_of h.catalogue h.lawful h.answers.0)
 
-pub honesty_is_kept : HonestyIsKept
-honesty_is_kept = record {
+pub law_honesty_is_kept : HonestyIsKept
+law_honesty_is_kept = record {
   answered = answer_honest;
   cut = stays_cut;
   later = stays_later;
@@ -239,9 +239,9 @@ module _ (laws : PartsAreRead) where
       (sym (front_told s text (sent_kind h.catalogue s kind) h.front r found))
       (book_kind name book h.catalogue s (length text) h.named kind)
 
-  pub fronts_are_read : FrontsAreRead
+  pub law_fronts_are_read : FrontsAreRead
   unfolding stays_cut
-  fronts_are_read = record {
+  law_fronts_are_read = record {
     head = λ reply close body bytes k r sent is reads. front_head laws reply close body k sent bytes is r reads;
     reply = λ reply close body bytes k r sent is reads. front_read laws reply close body k sent bytes is r reads;
     answer = λ catalogue message bytes s k r lawful answers is reads. answer_read catalogue message s k lawful answers bytes is r reads;

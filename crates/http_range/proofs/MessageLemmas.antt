@@ -4,7 +4,7 @@ use Rattle.std.proofs.lemmas.Bool.{cases_lt}
 use Rattle.std.proofs.lemmas.List.{take-append-le}
 use Rattle.httparse.proofs.GrammarLemmas.{ReadsRequest-append}
 use Rattle.httparse.specs.Grammar.{ReadsRequest}
-use Rattle.http_parts.specs.declared.limits.TheConstants.{MESSAGE_LIMIT}
+use Rattle.http_fields.specs.declared.limits.TheConstants.{MESSAGE_LIMIT}
 use Rattle.http_range.specs.Scan.{is_message}
 use Rattle.http_range.specs.Stream.{HasNoMessage, IsFirstMessage, IsMessage, IsUnfinished}
 use Rattle.http_range.specs.Laws.{MessagesStay, HeadsStay}
@@ -69,8 +69,8 @@ pub no_message : (stream message : List ℕ) → IsUnfinished stream → IsFirst
 no_message stream message none is =
     none (length message) (length_in stream message is) (subst IsMessage (sym is.front) is.is_one)
 
-pub messages_stay : MessagesStay
-messages_stay = record {
+pub law_messages_stay : MessagesStay
+law_messages_stay = record {
   found = found_stays;
   short = λ stream message is. (
     not_empty message is.is_one,

@@ -13,7 +13,7 @@ use Rattle.std.proofs.lemmas.List.Sums.{split_at_first, passes_at_first}
 use Rattle.std.proofs.lemmas.Slice.Eq.{bytes_eq-Decides}
 use Rattle.http_range.specs.declared.range.RangeSpec.{RangeSpec}
 use Rattle.http_range.specs.declared.range.RangeSpec.TheVariants.{Between, From, Suffix}
-use Rattle.http_parts.specs.Digits.{number}
+use Rattle.http_fields.specs.Digits.{number}
 use Rattle.http_range.specs.Range.{IsUnit, HasEnds, IsRangeText, between, spec_by, spec_behind, range_spec}
 use Rattle.http_range.proofs.RangeLemmas.{spec_of_parts, spec_by-numbers}
 

@@ -10,10 +10,10 @@ use Rattle.std.proofs.lemmas.Fmt.{decimal_nonempty}
 use Rattle.httparse.proofs.GrammarLemmas.{cons-append}
 use Rattle.http_range.specs.declared.range.RangeSpec.{RangeSpec}
 use Rattle.http_range.specs.declared.range.RangeSpec.TheVariants.{Between, From, Suffix}
-use Rattle.http_parts.specs.Digits.{number, capped}
+use Rattle.http_fields.specs.Digits.{number, capped}
 use Rattle.http_range.specs.Range.{capped_spec, resolved_or, spec_by, spec_behind, range_spec}
 use Rattle.http_range.specs.Ask.{range_value}
-use Rattle.http_parts.specs.Laws.{PartsAreRead}
+use Rattle.http_fields.specs.Laws.{PartsAreRead}
 use Rattle.http_range.proofs.PlaceLemmas.{digits_miss, place_at, before_at, after_at}
 
 -- what 64 bits keep of a range names the same part

@@ -10,15 +10,15 @@ use Rattle.std.proofs.lemmas.Fmt.{decimal_nonempty, length-decimal-le}
 use Rattle.httparse.specs.Grammar.{AllPass, IsToken, is_token, is_token_byte, is_uri_byte, is_value_byte, skip_ows}
 use Rattle.httparse.proofs.GrammarLemmas.{cons-append}
 use Rattle.http_range.specs.declared.reading.ContentRange.{ContentRange}
-use Rattle.http_parts.specs.Text.{FieldLine, closing}
-use Rattle.http_parts.specs.Tag.{is_kept_tag}
+use Rattle.http_fields.specs.Text.{FieldLine, closing}
+use Rattle.http_fields.specs.Tag.{is_kept_tag}
 use Rattle.http_range.specs.declared.reply.Reply.{Reply}
 use Rattle.http_range.specs.declared.reply.Reply.TheVariants.{R200, R206, R304, R400, R404, R405, R412, R416}
 use Rattle.http_range.specs.Reply.{content_range, content_length, file_fields, fields_of, IsSent}
 use Rattle.http_range.specs.ContentRange.{range_of}
 use Rattle.http_range.specs.Piece.{◌>>=◌}
 use Rattle.http_range.specs.Reading.{tag_by_rows, announced_by_rows, announced_of, reply_announced}
-use Rattle.http_parts.specs.Laws.{PartsAreRead}
+use Rattle.http_fields.specs.Laws.{PartsAreRead}
 use Rattle.http_range.proofs.TextLemmas.{IsShort, ArePlain}
 use Rattle.http_range.proofs.PlaceLemmas.{before_at, after_at, digits_miss}
 

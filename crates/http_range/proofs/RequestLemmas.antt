@@ -12,14 +12,14 @@ use Rattle.std.proofs.lemmas.Str.Ascii.{IsAscii-cons, IsAscii-nil}
 use Rattle.std.specs.Str.{IsAscii}
 use Rattle.httparse.specs.Grammar.{AllPass, is_token, is_token_byte, is_uri_byte, is_value_byte, crlf, RequestHead, IsRequestHead, print_request}
 use Rattle.httparse.proofs.GrammarLemmas.{request_unique, print_request-append}
-use Rattle.http_parts.specs.Tag.{is_kept_tag}
-use Rattle.http_parts.specs.Text.{FieldLine, line, head_with, closing}
-use Rattle.http_parts.specs.Names.{is_name, is_name_byte, is_host, is_host_byte}
+use Rattle.http_fields.specs.Tag.{is_kept_tag}
+use Rattle.http_fields.specs.Text.{FieldLine, line, head_with, closing}
+use Rattle.http_fields.specs.Names.{is_name, is_name_byte, is_host, is_host_byte}
 use Rattle.http_range.specs.Ask.{CanAsk, request_line, range_value, if_range, request_by, request_fields, asked_request, CanCheck, check_text, checked_request}
 use Rattle.http_range.specs.Seen.{SeenRequest, IsRequestFront, seen_request, HasRequest}
 use Rattle.http_range.specs.Stream.{IsFirstMessage}
-use Rattle.http_parts.specs.Plain.{field_of}
-use Rattle.http_parts.specs.Laws.{PartsAreRead}
+use Rattle.http_fields.specs.Plain.{field_of}
+use Rattle.http_fields.specs.Laws.{PartsAreRead}
 use Rattle.http_range.proofs.TextLemmas.{IsShort, ArePlain, lines-are, fields-are, seen-are, length-fields, length-head_with}
 use Rattle.http_range.proofs.FirstHead.{heads_are_messages}
 use Rattle.http_range.proofs.ReplyLemmas.{token_of, plain_visible, closing_plain, plain-append, value_literal, length_20, tag_plain}

@@ -13,14 +13,14 @@ use Rattle.http_range.specs.declared.reading.Why.{Why}
 use Rattle.http_range.specs.declared.reading.Why.TheVariants.{Cut}
 use Rattle.http_range.specs.declared.reply.Reply.{Reply}
 use Rattle.http_range.specs.declared.reply.Reply.TheVariants.{R200, R206, R304, R400, R404, R405, R412, R416}
-use Rattle.http_parts.specs.Text.{FieldLine, head_with, closing}
+use Rattle.http_fields.specs.Text.{FieldLine, head_with, closing}
 use Rattle.http_range.specs.Reply.{IsSent, status_of, status_line, fields_of, head_text}
 use Rattle.http_range.specs.Head.{SeenHead, seen_head, FindsHead}
 use Rattle.http_range.specs.Announced.{Announced, piece_behind}
 use Rattle.http_range.specs.Piece.{SeenPiece, ◌>>=◌}
 use Rattle.http_range.specs.Reading.{announced_of, reply_seen, front_seen, reply_announced, front_announced, check_tag, tag_seen, front_tag, ReadsHead, ReadsAnswer, ReadsCheck}
 use Rattle.http_range.proofs.TextLemmas.{ArePlain, head_by, status_by, head_with-is, head_is, length-fields, length-head_with, seen-are}
-use Rattle.http_parts.specs.Laws.{PartsAreRead}
+use Rattle.http_fields.specs.Laws.{PartsAreRead}
 use Rattle.http_range.proofs.FrontLemmas.{found_whole, found_cut, whole_head}
 use Rattle.http_range.proofs.ReplyLemmas.{fields_plain, closing_plain, plain-append, kept_read, reads_200, reads_206}
 

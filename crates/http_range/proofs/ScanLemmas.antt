@@ -5,7 +5,7 @@ use Rattle.std.proofs.lemmas.List.{reverse-append, reverse-reverse}
 use Rattle.std.proofs.lemmas.List.Elements.{All-nil, All-cons, All-head, All-tail}
 use Rattle.httparse.proofs.TrimLemmas.{AllPass-reverse}
 use Rattle.httparse.specs.Grammar.{AllPass}
-use Rattle.http_parts.specs.declared.limits.TheConstants.{MESSAGE_LIMIT}
+use Rattle.http_fields.specs.declared.limits.TheConstants.{MESSAGE_LIMIT}
 use Rattle.http_range.specs.Scan.{begins_line, has_empty_line, ends_line, without_return, ends_head, is_message}
 use Rattle.http_range.specs.Stream.{is_line_byte, AreLines, EndsHead, IsEmptyLine, IsFilledLine, IsMessage}
 

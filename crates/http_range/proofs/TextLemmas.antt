@@ -6,9 +6,9 @@ use Rattle.std.proofs.lemmas.List.Elements.{All-nil, All-cons}
 use Rattle.httparse.specs.Grammar.{AllPass, is_value_byte, crlf, IsField, print_field, print_response, ResponseHead, IsResponseHead}
 use Rattle.httparse.specs.Spans.{name_and_value}
 use Rattle.httparse.proofs.GrammarLemmas.{cons-append, print_response-append}
-use Rattle.http_parts.specs.Text.{FieldLine, line, head_with}
-use Rattle.http_parts.specs.Plain.{field_of, IsPlain}
-use Rattle.http_parts.specs.Laws.{PartsAreRead}
+use Rattle.http_fields.specs.Text.{FieldLine, line, head_with}
+use Rattle.http_fields.specs.Plain.{field_of, IsPlain}
+use Rattle.http_fields.specs.Laws.{PartsAreRead}
 
 -- a plain line of at most 154 bytes
 pub record IsShort (l : FieldLine) : Type 0 where

@@ -1,7 +1,7 @@
 -- What the head of an answer announces: of which bytes of which revision its body is, and how many they are
 -- (RFC 9110, sections 8.6, 8.8.3 and 14.4).
 use Rattle.std.specs.Prelude.{ℕ, ◌+◌, ◌<◌, ◌≤◌, ◌^◌, Bool, true, false, List, length, take, drop, Option, Some, None, Result, Ok, Err}
-use Rattle.http_parts.specs.declared.limits.TheConstants.{HEAD_LIMIT}
+use Rattle.http_fields.specs.declared.limits.TheConstants.{HEAD_LIMIT}
 use Rattle.http_range.specs.declared.reading.ContentRange.{ContentRange}
 use Rattle.http_range.specs.declared.reading.Why.{Why}
 use Rattle.http_range.specs.declared.reading.Head.{Head}

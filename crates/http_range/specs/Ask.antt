@@ -2,9 +2,9 @@
 -- and 14.2; RFC 9112, section 3).
 use Rattle.std.specs.Prelude.{ℕ, ◌^◌, ◌<◌, Bool, true, IsTrue, IfSome, List, ◌∷◌, ◌++◌, codes, decimal, Option, option_map}
 use Rattle.std.specs.Option.{option_to_list}
-use Rattle.http_parts.specs.Tag.{is_kept_tag}
-use Rattle.http_parts.specs.Names.{is_name, is_host}
-use Rattle.http_parts.specs.Text.{FieldLine, head_with, closing}
+use Rattle.http_fields.specs.Tag.{is_kept_tag}
+use Rattle.http_fields.specs.Names.{is_name, is_host}
+use Rattle.http_fields.specs.Text.{FieldLine, head_with, closing}
 use Rattle.http_range.specs.Seen.{SeenRequest}
 
 -- `METHOD /NAME HTTP/1.1`, the target in origin-form

@@ -2,8 +2,8 @@
 use Rattle.std.specs.Prelude.{◌≡◌, ◌≢◌, ◌≤◌, ◌⊎◌, ℕ, IsTrue, if◌then◌else◌, List, [], ◌∷◌, ◌++◌, length, codes, decimal, Option, Some}
 use Rattle.std.specs.List.{AllByRecursion, AllPairs, find}
 use Rattle.std.specs.Str.{bytes_eq}
-use Rattle.http_parts.specs.Names.{is_name}
-use Rattle.http_parts.specs.Tag.{is_kept_tag}
+use Rattle.http_fields.specs.Names.{is_name}
+use Rattle.http_fields.specs.Tag.{is_kept_tag}
 use Rattle.http_range.specs.declared.publication.TheConstants.{FILE_LIMIT}
 
 -- one revision of a file: the name and the tag under which it was published, and its bytes

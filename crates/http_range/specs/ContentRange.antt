@@ -2,7 +2,7 @@
 use Rattle.std.specs.Prelude.{◌≡◌, ◌<◌, ◌≤◌, ℕ, ◌&&◌, ◌==◌, nat_lt, nat_le, nat_eq, if◌then◌else◌, List, ◌∷◌, ◌++◌, drop, codes, Option, Some, None, ⊤}
 use Rattle.std.specs.List.{before_first, after_first, starts_with}
 use Rattle.http_range.specs.declared.reading.ContentRange.{ContentRange}
-use Rattle.http_parts.specs.Digits.{number_64}
+use Rattle.http_fields.specs.Digits.{number_64}
 
 -- text is `bytes a-b/l`, each number of one or more digits and 64 bits, with a at most b, and b below l
 pub record IsContentRange (text : List ℕ) (range : ContentRange) : Type 0 where

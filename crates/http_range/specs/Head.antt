@@ -2,10 +2,10 @@
 use Rattle.std.specs.Prelude.{◌≡◌, ℕ, ◌<◌, ◌≤◌, ◌⊎◌, List, length, take, map, Result, Ok, Err}
 use Rattle.httparse.specs.Grammar.{ResponseHead, ReadsResponse, print_response, status_code, HasNoResponse, MayBecomeResponse}
 use Rattle.httparse.specs.Spans.{name_and_value, ResponseOverflows}
-use Rattle.http_parts.specs.declared.limits.TheConstants.{FIELD_LIMIT, HEAD_LIMIT}
+use Rattle.http_fields.specs.declared.limits.TheConstants.{FIELD_LIMIT, HEAD_LIMIT}
 use Rattle.http_range.specs.declared.reading.Why.{Why}
 use Rattle.http_range.specs.declared.reading.Why.TheVariants.{Cut, Head}
-use Rattle.http_parts.specs.Text.{FieldLine}
+use Rattle.http_fields.specs.Text.{FieldLine}
 
 -- what is read of a head, and how many bytes it has
 pub record SeenHead : Type 0 where

@@ -4,7 +4,7 @@ use Rattle.httparse.specs.Grammar.{RequestHead, IsRequestHead, print_request}
 use Rattle.http_range.specs.Ask.{CanAsk, request_by, CanCheck, check_text}
 use Rattle.http_range.specs.Book.{Publication, IsPublication, Book, In, HasDistinctTags, Includes, Covers, Catalogue, IsCatalogue, published, publish, publication_tag}
 use Rattle.http_range.specs.Response.{Response, ending, text_of, IsAnswer, response_to_client, response_to_check}
-use Rattle.http_parts.specs.declared.limits.TheConstants.{HEAD_LIMIT, MESSAGE_LIMIT}
+use Rattle.http_fields.specs.declared.limits.TheConstants.{HEAD_LIMIT, MESSAGE_LIMIT}
 use Rattle.http_range.specs.Seen.{SeenRequest, HasRequest}
 use Rattle.http_range.specs.Scan.{is_message}
 use Rattle.http_range.specs.Stream.{AreAnswers, HasNoMessage, IsAnswered, IsFirstMessage, IsMessage, IsUnfinished}
@@ -18,8 +18,8 @@ use Rattle.http_range.specs.Announced.{Announced, body_behind, FitsFront}
 use Rattle.http_range.specs.Reading.{front_seen, front_announced, front_tag, ReadsHead, ReadsAnswer, ReadsCheck}
 use Rattle.http_range.specs.ContentRange.{IsContentRange, range_of}
 use Rattle.http_range.specs.declared.reading.ContentRange.{ContentRange}
-use Rattle.http_parts.specs.Tag.{is_kept_tag}
-pub use Rattle.http_parts.specs.Laws.{TagsAreQuoted, LimitsAre}
+use Rattle.http_fields.specs.Tag.{is_kept_tag}
+pub use Rattle.http_fields.specs.Laws.{TagsAreQuoted, LimitsAre}
 
 -- the tags of two publications of one server are different
 abbrev pub TagsTellPublications : Type 0

@@ -1,10 +1,10 @@
-pub use Rattle.http_parts.specs.Tag
-pub use Rattle.http_parts.specs.Names
-pub use Rattle.http_parts.specs.Text
-pub use Rattle.http_parts.specs.Digits
-pub use Rattle.http_parts.specs.Fields
-pub use Rattle.http_parts.specs.Members
-pub use Rattle.http_parts.specs.Conditional
+pub use Rattle.http_fields.specs.Tag
+pub use Rattle.http_fields.specs.Names
+pub use Rattle.http_fields.specs.Text
+pub use Rattle.http_fields.specs.Digits
+pub use Rattle.http_fields.specs.Fields
+pub use Rattle.http_fields.specs.Members
+pub use Rattle.http_fields.specs.Conditional
 pub mod Reply
 pub mod Ask
 pub mod Seen

@@ -9,11 +9,11 @@ use Rattle.http_range.specs.declared.reply.Reply.{Reply}
 use Rattle.http_range.specs.declared.reply.Reply.TheVariants.{R200, R206, R304, R400, R404, R405, R412, R416}
 use Rattle.http_range.specs.Reply.{head_text}
 use Rattle.std.specs.List.{list_any}
-use Rattle.http_parts.specs.Fields.{values_of, only, is_there}
-use Rattle.http_parts.specs.Members.{has_member}
-use Rattle.http_parts.specs.Digits.{number_64}
-use Rattle.http_parts.specs.Tag.{is_entity_tag, is_weak_tag}
-use Rattle.http_parts.specs.declared.limits.TheConstants.{TAG_LIMIT}
+use Rattle.http_fields.specs.Fields.{values_of, only, is_there}
+use Rattle.http_fields.specs.Members.{has_member}
+use Rattle.http_fields.specs.Digits.{number_64}
+use Rattle.http_fields.specs.Tag.{is_entity_tag, is_weak_tag}
+use Rattle.http_fields.specs.declared.limits.TheConstants.{TAG_LIMIT}
 use Rattle.http_range.specs.Head.{SeenHead, FindsHead}
 use Rattle.http_range.specs.Piece.{SeenPiece, ◌>>=◌}
 use Rattle.http_range.specs.Announced.{Announced, announced_by, piece_behind}

@@ -3,8 +3,8 @@ use Rattle.std.specs.Prelude.{ℕ, ◌+◌, ◌-◌, ◌<◌, ◌≤◌, ◌^◌
 use Rattle.std.specs.Str.Parse.{digits_value}
 use Rattle.http_range.specs.declared.reply.Reply.{Reply}
 use Rattle.http_range.specs.declared.reply.Reply.TheVariants.{R200, R206, R304, R400, R404, R405, R412, R416}
-use Rattle.http_parts.specs.Tag.{is_kept_tag}
-use Rattle.http_parts.specs.Text.{FieldLine, head_with, closing}
+use Rattle.http_fields.specs.Tag.{is_kept_tag}
+use Rattle.http_fields.specs.Text.{FieldLine, head_with, closing}
 
 -- a reply that a server sends: its tag is kept, its positions lie in the file, and its numbers have 64 bits
 abbrev pub IsSent : Reply → Type 0

@@ -7,9 +7,9 @@ use Rattle.http_range.specs.declared.range.Resolved.{Resolved}
 use Rattle.http_range.specs.declared.range.Resolved.TheVariants.{Whole, Part, Unsatisfiable}
 use Rattle.http_range.specs.declared.reply.Reply.{Reply}
 use Rattle.http_range.specs.declared.reply.Reply.TheVariants.{R200, R206, R304, R400, R404, R405, R412, R416}
-use Rattle.http_parts.specs.Fields.{values_of, only, is_there}
-use Rattle.http_parts.specs.Members.{has_member}
-use Rattle.http_parts.specs.Conditional.{one_matches}
+use Rattle.http_fields.specs.Fields.{values_of, only, is_there}
+use Rattle.http_fields.specs.Members.{has_member}
+use Rattle.http_fields.specs.Conditional.{one_matches}
 use Rattle.http_range.specs.Range.{range_spec, resolved_or}
 use Rattle.http_range.specs.Reply.{head_text}
 use Rattle.http_range.specs.Seen.{SeenRequest, HasRequest}

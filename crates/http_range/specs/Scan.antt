@@ -1,6 +1,6 @@
 -- How the code finds the end of a message: it reads a text backwards, so the last byte comes first here.
 use Rattle.std.specs.Prelude.{ℕ, Bool, true, false, ◌&&◌, ◌||◌, ◌==◌, not, if◌then◌else◌, List, [], ◌∷◌, length, reverse}
-use Rattle.http_parts.specs.declared.limits.TheConstants.{MESSAGE_LIMIT}
+use Rattle.http_fields.specs.declared.limits.TheConstants.{MESSAGE_LIMIT}
 
 -- the text ends where a line begins
 abbrev pub begins_line : List ℕ → Bool

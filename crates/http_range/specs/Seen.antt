@@ -2,8 +2,8 @@
 use Rattle.std.specs.Prelude.{◌≡◌, ℕ, ◌≤◌, List, length, take, map, Option, Some, None}
 use Rattle.httparse.specs.Grammar.{RequestHead, ReadsRequest}
 use Rattle.httparse.specs.Spans.{name_and_value}
-use Rattle.http_parts.specs.declared.limits.TheConstants.{FIELD_LIMIT, MESSAGE_LIMIT}
-use Rattle.http_parts.specs.Text.{FieldLine}
+use Rattle.http_fields.specs.declared.limits.TheConstants.{FIELD_LIMIT, MESSAGE_LIMIT}
+use Rattle.http_fields.specs.Text.{FieldLine}
 
 -- the parts of a request's head; white space round a value is dropped
 pub record SeenRequest : Type 0 where

@@ -2,7 +2,7 @@
 use Rattle.std.specs.Prelude.{◌≡◌, ◌≢◌, ◌⊎◌, ℕ, suc, ◌<◌, ◌≤◌, Bool, true, false, ◌==◌, not, if◌then◌else◌, List, [], ◌∷◌, ◌++◌, codes, length, take, drop}
 use Rattle.std.specs.List.{list_any, flat_map}
 use Rattle.httparse.specs.Grammar.{AllPass}
-use Rattle.http_parts.specs.declared.limits.TheConstants.{MESSAGE_LIMIT, ANSWERS_LIMIT}
+use Rattle.http_fields.specs.declared.limits.TheConstants.{MESSAGE_LIMIT, ANSWERS_LIMIT}
 use Rattle.http_range.specs.Book.{Catalogue}
 use Rattle.http_range.specs.Response.{Response, text_of, IsAnswer}
 

@@ -5,9 +5,9 @@ ghost use Rattle.http_range.specs.AnswerHead.{head_seen, found_seen};
 ghost use Rattle.http_range.specs.Reading.{EndsConnection, is_coded, says_close, tag_by_rows, tag_in};
 
 use crate::reading::Why;
-use http_parts::fields::Fields;
-use http_parts::limits::{FIELD_LIMIT, HEAD_LIMIT};
-use http_parts::tag::{Tag, is_opaque_tag, is_weak_tag};
+use http_fields::fields::HeaderFields;
+use http_fields::limits::{FIELD_LIMIT, HEAD_LIMIT};
+use http_fields::tag::{Tag, is_opaque_tag, is_weak_tag};
 use httparse::Status;
 use httparse::spans::{EMPTY_HEADER_SPAN, parse_response};
 
@@ -15,7 +15,7 @@ use httparse::spans::{EMPTY_HEADER_SPAN, parse_response};
 #[derive(Drop)]
 pub(crate) struct AnswerHead<'b> {
     pub(crate) status: u16,
-    pub(crate) fields: Fields<'b>,
+    pub(crate) fields: HeaderFields<'b>,
     pub(crate) size: usize,
 }
 
@@ -41,7 +41,7 @@ pub(crate) fn head_of(bytes: &[u8]) -> Result<AnswerHead<'_>, Why>
     match parse_response(front, &mut spans) {
         Ok(Status::Complete(head)) => Ok(AnswerHead {
             status: head.code,
-            fields: Fields::new(front, spans, head.headers),
+            fields: HeaderFields::new(front, spans, head.headers),
             size: head.len,
         }),
         Ok(Status::Partial) => {

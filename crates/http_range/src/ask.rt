@@ -1,13 +1,13 @@
 //! A client's requests.
 ghost use Rattle.std.specs.Prelude.{◌≡◌, ◌++◌, true, false, IfOk, OnOk, codes, option_map};
 ghost use Rattle.std.specs.List.{flat_map};
-ghost use Rattle.http_parts.specs.Text.{line};
+ghost use Rattle.http_fields.specs.Text.{line};
 ghost use Rattle.http_range.specs.Ask.{request_by, request_line, range_value, if_range, check_text};
 
-use http_parts::line::{push_closing, push_decimal, push_line};
-use http_parts::tag::Tag;
+use extents::{Memory, Span};
+use http_fields::line::{push_closing, push_decimal, push_line};
+use http_fields::tag::Tag;
 use std::alloc::{AllocError, Global};
-use tiff_dir::{Memory, Span};
 
 /// The request for the bytes of a span of the file under a name; with a tag it asks for them if the file still has that tag, and else for
 /// the whole file (RFC 9110, sections 13.1.5 and 14.2). The connection is to end with the answer. Its only error is want of memory.
@@ -85,7 +85,7 @@ fn push_request_line(out: &mut Vec<u8>, method: &[u8], name: &[u8]) -> Result<()
     Ok(())
 }
 
-#[tactic(auto, unfolding(http_parts::specs::Text::line, crate::specs::Ask::range_value))]
+#[tactic(auto, unfolding(http_fields::specs::Text::line, crate::specs::Ask::range_value))]
 fn push_range(out: &mut Vec<u8>, first: u64, last: u64) -> Result<(), AllocError>
     ensures { OnOk result (out.new.items ≡ out.old.items ++ line (codes "Range", range_value first last)) }
 {

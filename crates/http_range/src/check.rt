@@ -6,7 +6,7 @@ ghost use Rattle.http_range.specs.Reading.{check_tag, ReadsCheck};
 
 use crate::answer_head::{AnswerHead, head_of};
 use crate::reading::{Why, has_other_status};
-use http_parts::tag::Tag;
+use http_fields::tag::Tag;
 
 /// What the answer to a check says: the tag under which the server has the file, or why it is not used.
 #[derive(Debug, Drop)]

@@ -1,7 +1,7 @@
 //! Byte ranges, entity tags and heads of HTTP/1.1 (RFC 9110, RFC 9112), for files that are read by single ranges.
 //!
-//! Only `write_request`, `write_open_request`, `write_check`, `write_head` and `append_head` take memory. Positions and lengths are in bytes, and
-//! positions count from 0.
+//! Only `write_request`, `write_open_request`, `write_check`, `write_head` and `append_head` take memory. Positions and
+//! lengths are in bytes, and positions count from 0.
 #![tactic(auto)]
 
 mod answer_head;
@@ -18,14 +18,16 @@ mod stream;
 pub use answer_head::ends_connection;
 pub use ask::{write_check, write_open_request, write_request};
 pub use check::{CheckReading, read_check};
-pub use http_parts::conditional::any_match;
-pub use http_parts::laws::limits_are;
-pub use http_parts::limits::{ANSWERS_LIMIT, MESSAGE_LIMIT};
-pub use http_parts::names::{is_host, is_name};
-pub use http_parts::tag::Tag;
+pub use extents::{Memory, Span};
+pub use http_fields::conditional::any_match;
+pub use http_fields::laws::law_limits_are;
+pub use http_fields::limits::{ANSWERS_LIMIT, MESSAGE_LIMIT};
+pub use http_fields::names::{is_host, is_name};
+pub use http_fields::tag::Tag;
 pub use laws::{
-    answers_are_unique, clients_are_answered, fronts_are_read, heads_grow, honesty_is_kept,
-    messages_stay, publications_replace, tags_tell_publications, values_have_forms,
+    law_answers_are_unique, law_clients_are_answered, law_fronts_are_read, law_heads_grow,
+    law_honesty_is_kept, law_messages_stay, law_publications_replace, law_tags_tell_publications,
+    law_values_have_forms,
 };
 pub use publication::{FILE_LIMIT, NAMES_LIMIT, publication_tag};
 pub use range::{RangeSpec, Resolved, read_range, resolve};
@@ -33,4 +35,3 @@ pub use reading::{Head, HeadReading, Piece, Reading, Why, read_answer, read_head
 pub use reply::{Reply, append_head, write_head};
 pub use request::{Request, read_request};
 pub use stream::message_length;
-pub use tiff_dir::{Memory, Span};

@@ -4,9 +4,9 @@ ghost use Rattle.arrayvec.specs.ArrayVec.{array_vec_len};
 ghost use Rattle.http_range.specs.Book.{publication_tag};
 
 use arrayvec::ArrayVec;
-use http_parts::laws::parts_are_read;
-use http_parts::limits::TAG_LIMIT;
-use http_parts::tag::Tag;
+use http_fields::laws::law_parts_are_read;
+use http_fields::limits::TAG_LIMIT;
+use http_fields::tag::Tag;
 use itoa::Buffer;
 
 /// The most bytes of a published file: 64 MiB.
@@ -19,7 +19,7 @@ pub const NAMES_LIMIT: usize = 64;
 pub fn publication_tag(epoch: u32, number: u32) -> Tag
     ensures { result ≡ publication_tag epoch number }
 {
-    parts_are_read();
+    law_parts_are_read();
     let text = publication_text(epoch, number);
     Tag::new(text.as_slice()).unwrap()
 }

@@ -1,13 +1,13 @@
 //! Ranges of a content (RFC 9110, section 14).
 ghost use Rattle.std.specs.Prelude.{◌≡◌, ◌≤◌, ◌<◌, ◌^◌, ◌↔◌, ℕ, List, take, option_map, Some, codes};
 ghost use Rattle.std.specs.Str.{bytes_eq, str_to_ascii_lowercase};
-ghost use Rattle.http_parts.specs.Digits.{number};
+ghost use Rattle.http_fields.specs.Digits.{number};
 ghost use Rattle.http_range.specs.Range.{IsRangeText, between, spec_by, spec_behind, range_spec, resolved, resolved_or, part, capped_spec};
 ghost use Rattle.http_range.specs.Ask.{range_value};
 
-use http_parts::bytes::{is_same_word, past, place_of, split_first, up_to};
-use http_parts::laws::parts_are_read;
-use http_parts::numeral::{capped, in_order, is_number, number};
+use http_fields::bytes::{is_same_word, past, place_of, split_first, up_to};
+use http_fields::laws::law_parts_are_read;
+use http_fields::numeral::{capped, in_order, is_number, number};
 
 /// The value of a Range field: positions count from 0, and the last one belongs to the part.
 #[derive(Clone, Copy, Debug, PartialEq, Eq)]
@@ -121,7 +121,7 @@ pub fn read_range(value: &[u8]) -> Option<RangeSpec>
     ensures written { (first last : ℕ) → first ≤ last → last < 2 ^ 64
         → value.now ≡ range_value first last → result ≡ Some (RangeSpec.Between first last) }
 {
-    parts_are_read();
+    law_parts_are_read();
     read(value)
 }
 

@@ -7,10 +7,10 @@ ghost use Rattle.http_range.specs.ContentRange.{range_of, range_of_numbers, IsRa
 ghost use Rattle.http_range.specs.Reading.{has_other_status, range_named, length_named, announced_by_rows, announced_in, announced_of, ReadsHead, ReadsAnswer};
 
 use crate::answer_head::{AnswerHead, head_of};
-use crate::laws::heads_grow;
-use http_parts::bytes::{after, past, split_first, up_to};
-use http_parts::digits::number_64;
-use http_parts::tag::Tag;
+use crate::laws::law_heads_grow;
+use http_fields::bytes::{after, past, split_first, up_to};
+use http_fields::digits::number_64;
+use http_fields::tag::Tag;
 
 /// Why an answer is not used.
 #[derive(Clone, Copy, Debug, PartialEq, Eq)]
@@ -261,7 +261,7 @@ pub fn read_head(bytes: &[u8]) -> HeadReading
     ensures fits { IfOk (head_reading_seen result) FitsFile }
     ensures there { IfOk (head_reading_seen result) (FitsFront bytes.now) }
 {
-    heads_grow();
+    law_heads_grow();
     match read(bytes) {
         Ok(head) => HeadReading::Head(head),
         Err(why) => HeadReading::NotUsed(why),

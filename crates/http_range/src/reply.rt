@@ -1,13 +1,13 @@
 //! A server's answers.
 ghost use Rattle.std.specs.Prelude.{◌≡◌, ◌+◌, ◌-◌, IfOk, OnOk, ◌++◌, codes, decimal};
 ghost use Rattle.std.specs.List.{flat_map};
-ghost use Rattle.http_parts.specs.Text.{line};
+ghost use Rattle.http_fields.specs.Text.{line};
 ghost use Rattle.http_range.specs.Reply.{file_fields, content_range, fields_of, head_text, status_line};
 
-use http_parts::line::{push_closing, push_decimal, push_line, push_number_line};
-use http_parts::tag::Tag;
+use extents::Memory;
+use http_fields::line::{push_closing, push_decimal, push_line, push_number_line};
+use http_fields::tag::Tag;
 use std::alloc::{AllocError, Global};
-use tiff_dir::Memory;
 
 /// What a server answers: a status with what its head says. Lengths and positions are in bytes.
 #[derive(Debug, Drop)]
@@ -151,7 +151,7 @@ fn push_file(out: &mut Vec<u8>, tag: &Tag) -> Result<(), AllocError>
     Ok(())
 }
 
-#[tactic(auto, unfolding(http_parts::specs::Text::line, crate::specs::Reply::content_range))]
+#[tactic(auto, unfolding(http_fields::specs::Text::line, crate::specs::Reply::content_range))]
 fn push_content_range(
     out: &mut Vec<u8>,
     first: u64,
@@ -171,7 +171,7 @@ fn push_content_range(
     Ok(())
 }
 
-#[tactic(auto, unfolding(http_parts::specs::Text::line))]
+#[tactic(auto, unfolding(http_fields::specs::Text::line))]
 fn push_unsatisfied(out: &mut Vec<u8>, length: u64) -> Result<(), AllocError>
     ensures { OnOk result (out.new.items
         ≡ out.old.items ++ line (codes "Content-Range", codes "bytes */" ++ decimal length)) }

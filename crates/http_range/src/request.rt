@@ -1,17 +1,17 @@
 //! The head of a request that came (RFC 9112, section 3).
 ghost use Rattle.std.specs.Prelude.{◌≡◌, ℕ, Bool, List, Option, ◌++◌, slice_get, option_copied, Some};
 ghost use Rattle.std.specs.List.{list_any};
-ghost use Rattle.http_parts.specs.Fields.{values_of, only, is_there};
-ghost use Rattle.http_parts.specs.Members.{has_member};
-ghost use Rattle.http_parts.specs.Conditional.{one_matches};
+ghost use Rattle.http_fields.specs.Fields.{values_of, only, is_there};
+ghost use Rattle.http_fields.specs.Members.{has_member};
+ghost use Rattle.http_fields.specs.Conditional.{one_matches};
 ghost use Rattle.http_range.specs.Seen.{HasRequest};
 ghost use Rattle.http_range.specs.Ask.{CanAsk, CanCheck, check_text, checked_request, request_by, asked_request};
 
-use http_parts::bytes::up_to;
-use http_parts::fields::Fields;
-use http_parts::laws::parts_are_read;
-use http_parts::limits::{FIELD_LIMIT, MESSAGE_LIMIT};
-use http_parts::tag::Tag;
+use http_fields::bytes::up_to;
+use http_fields::fields::HeaderFields;
+use http_fields::laws::law_parts_are_read;
+use http_fields::limits::{FIELD_LIMIT, MESSAGE_LIMIT};
+use http_fields::tag::Tag;
 use httparse::Status;
 use httparse::spans::{EMPTY_HEADER_SPAN, parse_request};
 use std::marker::Model;
@@ -22,7 +22,7 @@ pub struct Request<'b> {
     method: &'b [u8],
     target: &'b [u8],
     minor: u8,
-    fields: Fields<'b>,
+    fields: HeaderFields<'b>,
 }
 
 impl<'b> Model for Request<'b> {
@@ -107,7 +107,7 @@ pub fn read_request(bytes: &[u8]) -> Option<Request<'_>>
     ensures checked { (host name tag more : List ℕ) → CanCheck host name tag → bytes.now ≡ check_text host name tag ++ more
         → result ≡ Some (checked_request host name tag) }
 {
-    parts_are_read();
+    law_parts_are_read();
     find(bytes)
 }
 
@@ -121,7 +121,7 @@ fn find(bytes: &[u8]) -> Option<Request<'_>>
             method: head.method.of(front),
             target: head.path.of(front),
             minor: head.version,
-            fields: Fields::new(front, spans, head.headers),
+            fields: HeaderFields::new(front, spans, head.headers),
         }),
         _ => None,
     }

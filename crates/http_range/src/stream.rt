@@ -3,7 +3,7 @@ ghost use Rattle.std.specs.Prelude.{◌≡◌, ◌≤◌, IfSome, IfNone, length
 ghost use Rattle.http_range.specs.Scan.{begins_line, has_empty_line, ends_line, without_return, ends_head, is_message};
 ghost use Rattle.http_range.specs.Stream.{HasNoMessage, IsFirstMessage, IsUnfinished};
 
-use http_parts::limits::MESSAGE_LIMIT;
+use http_fields::limits::MESSAGE_LIMIT;
 
 /// Whether the text ends where a line begins.
 fn begins_line(text: &[u8]) -> bool

@@ -10,7 +10,7 @@ use Rattle.std.proofs.lemmas.List.Sums.{AllPass-from_list_all}
 use Rattle.std.proofs.lemmas.Str.{IsUtf8-from_ascii}
 use Rattle.std.proofs.lemmas.Str.Ascii.{IsAscii-cons, IsAscii-nil}
 use Rattle.httparse.specs.Grammar.{trim_ows, is_token, is_token_byte, is_uri_byte, is_value_byte, crlf, Field, IsField, RequestHead, IsRequestHead, print_request}
-use Rattle.http_parts.specs.declared.limits.TheConstants.{FIELD_LIMIT, MESSAGE_LIMIT}
+use Rattle.http_fields.specs.declared.limits.TheConstants.{FIELD_LIMIT, MESSAGE_LIMIT}
 use Rattle.http_range.specs.Response.{IsAnswer}
 use Rattle.http_range.specs.Seen.{HasRequest, seen_request}
 use Rattle.http_range.specs.Text.{line}

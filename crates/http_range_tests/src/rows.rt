@@ -1,7 +1,7 @@
 //! Worked rows of the definitions, as a law. The check of this crate proves it by computing, so there is nothing to run.
 ghost use Rattle.http_range_tests.specs.Rows.{AreParts, part_rows, TextRows, HeadRows, MessageRows, AreCases, case_rows, condition_rows, StreamRows};
 
-use http_range::messages_stay;
+use http_range::law_messages_stay;
 
 /// The definitions give the worked rows: the parts that values of Range name, the texts of heads and what they announce,
 /// what is read of a message, answers, answers to conditions, and the messages of a stream.
@@ -14,5 +14,5 @@ pub fn rows_hold()
     ensures conditions { AreCases condition_rows }
     ensures streams { StreamRows }
 {
-    messages_stay();
+    law_messages_stay();
 }

@@ -4,8 +4,8 @@ ghost use Rattle.tiff_dir.specs.declared.limits.TheConstants.{MAX_PACKET_BYTES};
 ghost use Rattle.tiff_dir.specs.Packets.{Packs};
 ghost use Rattle.packbits.specs.Adding.{Adds};
 
+use extents::Memory;
 use std::alloc::Global;
-use tiff_dir::Memory;
 use tiff_dir::limits::MAX_PACKET_BYTES;
 
 /// How many equal bytes the row begins with, up to 128.

@@ -5,7 +5,7 @@ ghost use Rattle.tiff_dir.specs.declared.limits.TheConstants.{MAX_PACKET_BYTES};
 ghost use Rattle.packbits.specs.Unpacking.{IsFirst, HasNoFirst, IsNotPacked};
 
 use tiff_dir::limits::MAX_PACKET_BYTES;
-use tiff_dir::{FileFault, one_text};
+use tiff_dir::{FileFault, law_one_text};
 
 /// The head of a packet that stands for nothing; below it a packet copies, above it one repeats.
 const NO_OP: usize = 128;
@@ -150,7 +150,7 @@ pub fn unpack(seg: &[u8], row: usize, out: &mut [u8]) -> Result<(), FileFault>
     ensures ok { OnOk result (Packs row seg.now out.new) }
     ensures refused { IfErr result (λ fault. (fault ≡ FileFault.Packet) × IsNotPacked row seg.now (length out.old)) }
 {
-    one_text();
+    law_one_text();
     let mut at = 0;
     let mut done = 0;
     let mut room = row;

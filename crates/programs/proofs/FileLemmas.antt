@@ -3,8 +3,8 @@ use Rattle.std.proofs.Common.{◌≡◌, ℕ, zero, suc, ◌+◌, ◌<◌, List,
 use Rattle.std.specs.Borrow.{Bor}
 use Rattle.std.proofs.lemmas.List.{take_more}
 use Rattle.disk_files.specs.declared.watched.Watched.{Watched}
-use Rattle.programs.specs.declared.fault.Fault.{Fault}
-use Rattle.programs.specs.declared.fault.Fault.TheVariants.{Memory}
+use Rattle.programs.specs.declared.exit.Exit.{Exit}
+use Rattle.programs.specs.declared.exit.Exit.TheVariants.{Memory}
 use Rattle.programs.specs.Files.{AreFiles, IsFile, IsNoFile, NamesFile, NamesOneOf}
 
 -- one more word has its file behind those
@@ -24,7 +24,7 @@ next_file words k d files more file are within is longer =
     subst P (sym longer) (subst Q (sym (take_more words k d within)) (one_more (take k words) files (get_or words k d) file are is))
 
 -- a fault that names the word at this place names one of the words
-pub one_of : (words : List (Bor (List ℕ))) (k : ℕ) (d : Bor (List ℕ)) (fault : Fault) → k < length words → IsNoFile (get_or words k d).now
+pub one_of : (words : List (Bor (List ℕ))) (k : ℕ) (d : Bor (List ℕ)) (fault : Exit) → k < length words → IsNoFile (get_or words k d).now
     → NamesFile (get_or words k d).now fault → NamesOneOf words fault
 one_of [] k d fault within none names = absurd (omega (arith, within))
 one_of (w ∷ ws) zero d fault within none names = inl (none, names)

@@ -3,8 +3,8 @@ use Rattle.std.specs.Prelude.{◌≡◌, ◌⊎◌, ◌<◌, ◌≤◌, ◌==◌
 use Rattle.std.specs.Borrow.{Bor}
 use Rattle.std.specs.List.{AllZip, after_first, before_first, position_or_len}
 use Rattle.disk_files.specs.declared.watched.Watched.{Watched}
-use Rattle.programs.specs.declared.fault.Fault.{Fault}
-use Rattle.programs.specs.declared.fault.Fault.TheVariants.{NotAFile, Memory}
+use Rattle.programs.specs.declared.exit.Exit.{Exit}
+use Rattle.programs.specs.declared.exit.Exit.TheVariants.{NotAFile, Memory}
 
 -- the word has a `=` (61), and the file has the name before its first one and the path behind it
 abbrev pub IsFile : List ℕ → Watched → Type 0
@@ -16,13 +16,13 @@ abbrev pub IsNoFile : List ℕ → Type 0
 IsNoFile word = length word ≤ position_or_len (λ b. b == 61) word
 
 -- the fault names the word, or memory is wanting
-abbrev pub NamesFile : List ℕ → Fault → Type 0
+abbrev pub NamesFile : List ℕ → Exit → Type 0
 NamesFile word (NotAFile told) = string_bytes told ≡ word
 NamesFile word Memory = ⊤
 NamesFile word fault = ⊥
 
 -- one of the words names no file, and the fault names it, or memory is wanting
-abbrev pub NamesOneOf : List (Bor (List ℕ)) → Fault → Type 0
+abbrev pub NamesOneOf : List (Bor (List ℕ)) → Exit → Type 0
 NamesOneOf [] fault = fault ≡ Memory
 NamesOneOf (word ∷ words) fault = (IsNoFile word.now × NamesFile word.now fault) ⊎ NamesOneOf words fault
 
@@ -31,7 +31,7 @@ abbrev pub AreFiles : List (Bor (List ℕ)) → List Watched → Type 0
 AreFiles words files = AllZip (λ (word : Bor (List ℕ)) file. IsFile word.now file) words files
 
 -- a word names no file, or memory is wanting
-abbrev pub IsOfFiles : Fault → Type 0
+abbrev pub IsOfFiles : Exit → Type 0
 IsOfFiles (NotAFile told) = ⊤
 IsOfFiles Memory = ⊤
 IsOfFiles fault = ⊥

@@ -1,8 +1,8 @@
 -- Numbers of command lines, and words that are none.
 use Rattle.std.specs.Prelude.{◌≡◌, ℕ, List, Option, Some, None, string_bytes, ⊤}
 use Rattle.command_lines.specs.Number.{number_from}
-use Rattle.programs.specs.declared.fault.Fault.{Fault}
-use Rattle.programs.specs.declared.fault.Fault.TheVariants.{NotANumber, Memory}
+use Rattle.programs.specs.declared.exit.Exit.{Exit}
+use Rattle.programs.specs.declared.exit.Exit.TheVariants.{NotANumber, Memory}
 
 -- the number of an option, or the default where it is left out
 abbrev pub number_or : (least greatest default : ℕ) → Option (List ℕ) → Option ℕ
@@ -10,13 +10,13 @@ number_or least greatest default None = Some default
 number_or least greatest default (Some word) = number_from least greatest word
 
 -- the fault names the word, or memory is wanting
-abbrev pub Names : List ℕ → Fault → Type 0
+abbrev pub Names : List ℕ → Exit → Type 0
 Names word (NotANumber told) = string_bytes told ≡ word
 Names word Memory = ⊤
 Names word fault = ⊥
 
 -- a word is no number, or memory is wanting
-abbrev pub IsOfNumber : Fault → Type 0
+abbrev pub IsOfNumber : Exit → Type 0
 IsOfNumber (NotANumber told) = ⊤
 IsOfNumber Memory = ⊤
 IsOfNumber fault = ⊥

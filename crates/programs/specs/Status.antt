@@ -4,11 +4,11 @@ use Rattle.clap.specs.Words.{kind_of}
 use Rattle.clap.specs.declared.error.kind.ErrorKind.{ErrorKind}
 use Rattle.clap.specs.declared.error.kind.ErrorKind.TheVariants as kind
 use Rattle.scripts.specs.declared.line.ScriptError.TheVariants as script
-use Rattle.reading.specs.declared.error.ReadError.{ReadError}
-use Rattle.reading.specs.declared.error.ReadError.TheVariants as reading
-use Rattle.programs.specs.declared.fault.Fault.{Fault}
-use Rattle.programs.specs.declared.fault.Fault.TheVariants.{NotText, NotAProgram, CommandLine, NotANumber, NotAFile, Script}
-use Rattle.programs.specs.declared.fault.Fault.TheVariants.{RefusedClient, NotAPlace, OfFile, NoReport, CantRead, Refused, CantListen, CantAccept, CantWait, CantWrite, CantWriteFile, Memory}
+use Rattle.read_command.specs.declared.error.ReadError.{ReadError}
+use Rattle.read_command.specs.declared.error.ReadError.TheVariants as reading
+use Rattle.programs.specs.declared.exit.Exit.{Exit}
+use Rattle.programs.specs.declared.exit.Exit.TheVariants.{NotText, NotAProgram, CommandLine, NotANumber, NotAFile, Script}
+use Rattle.programs.specs.declared.exit.Exit.TheVariants.{RefusedClient, NotAFileUrl, OfFile, NoReport, CantRead, Refused, CantListen, CantAccept, CantWait, CantWrite, CantWriteFile, Memory}
 
 -- 0 where help or the version is asked for, and 2 where the words aren't the program's
 abbrev pub line_status : ErrorKind → ℕ
@@ -18,14 +18,14 @@ line_status k = 2
 
 -- 1 for files, sockets, publications and memory, 2 for the command line and scripts, 3 for a fault of the file that is read, 4
 -- where there is no report; to ask for help is no fault
-abbrev pub HasStatus : Fault → ℕ → Type 0
+abbrev pub HasStatus : Exit → ℕ → Type 0
 HasStatus NotText n = n ≡ 2
 HasStatus (NotAProgram word) n = n ≡ 2
 HasStatus (CommandLine error) n = n ≡ line_status (kind_of error)
 HasStatus (NotANumber word) n = n ≡ 2
 HasStatus (NotAFile word) n = n ≡ 2
 HasStatus (RefusedClient refusal) n = n ≡ 2
-HasStatus (NotAPlace word error) n = n ≡ 2
+HasStatus (NotAFileUrl word error) n = n ≡ 2
 HasStatus (OfFile fault) n = n ≡ 3
 HasStatus NoReport n = n ≡ 4
 HasStatus (Script (script.NotAnEvent line)) n = n ≡ 2
@@ -41,16 +41,16 @@ HasStatus (CantWriteFile path) n = n ≡ 1
 HasStatus Memory n = n ≡ 1
 
 -- what a program ends with that has told the fault: its status, or 1 for help that was asked for
-abbrev pub EndsWith : Fault → ℕ → Type 0
+abbrev pub EndsWith : Exit → ℕ → Type 0
 EndsWith fault n = HasStatus fault n ⊎ (HasStatus fault 0 × (n ≡ 1))
 
 -- which of these it is, by whether its line, or that help, is printed
-abbrev pub EndsBy : Bool → Fault → ℕ → Type 0
+abbrev pub EndsBy : Bool → Exit → ℕ → Type 0
 EndsBy true fault n = HasStatus fault n
 EndsBy false fault n = (HasStatus fault n × (n ≢ 0)) ⊎ (HasStatus fault 0 × (n ≡ 1))
 
 -- the fault that tells why there is no text of a file
-abbrev pub fault_of_reading : ReadError → Fault
-fault_of_reading (reading.OfFile fault) = OfFile fault
-fault_of_reading reading.NoReport = NoReport
-fault_of_reading reading.Memory = Memory
+abbrev pub exit_of_reading : ReadError → Exit
+exit_of_reading (reading.OfFile fault) = OfFile fault
+exit_of_reading reading.NoReport = NoReport
+exit_of_reading reading.Memory = Memory

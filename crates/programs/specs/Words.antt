@@ -8,7 +8,7 @@ use Rattle.tiff_dir.specs.declared.query.Query.{Query}
 use Rattle.tiff_dir.specs.declared.query.Query.TheVariants.{Window, Info}
 use Rattle.tiff_dir.specs.declared.query.Pick.{Pick}
 use Rattle.tiff_dir.specs.declared.query.Pick.TheVariants.{Level, Columns}
-use Rattle.describing.specs.declared.description.Form.TheVariants.{Words, Json}
+use Rattle.text_description.specs.declared.description.Form.TheVariants.{Words, Json}
 use Rattle.command_lines.specs.Number.{number_from}
 use Rattle.command_lines.specs.declared.read.AskedWords.{AskedWords}
 use Rattle.command_lines.specs.declared.read.AskedWords.TheVariants as words
@@ -16,10 +16,10 @@ use Rattle.command_lines.specs.declared.read.ReadLine.{ReadLine}
 use Rattle.command_lines.specs.declared.read.WindowWords.{WindowWords}
 use Rattle.command_lines.specs.declared.serve.ServeLine.{ServeLine}
 use Rattle.cog_client.specs.declared.error.ClientError.{ClientError}
-use Rattle.programs.specs.declared.fault.Fault.{Fault}
-use Rattle.programs.specs.declared.fault.Fault.TheVariants.{Memory, RefusedClient}
-use Rattle.reading.specs.declared.reading.Asked.{Asked}
-use Rattle.reading.specs.declared.reading.Asked.TheVariants as asked
+use Rattle.programs.specs.declared.exit.Exit.{Exit}
+use Rattle.programs.specs.declared.exit.Exit.TheVariants.{Memory, RefusedClient}
+use Rattle.read_command.specs.declared.reading.Asked.{Asked}
+use Rattle.read_command.specs.declared.reading.Asked.TheVariants as asked
 use Rattle.programs.specs.Number.{number_or}
 
 -- a number of 32 bits
@@ -100,7 +100,7 @@ HasNoLimit line = (connections_number line.connections.now ≡ None) ⊎ (at_onc
     ⊎ (patience_number (option_copied line.patience) ≡ None)
 
 -- No client is made of a server and a name: they are refused for this, or memory is wanting where nothing stands against them.
-abbrev pub IsNoClient : Option ClientError → Fault → Type 0
+abbrev pub IsNoClient : Option ClientError → Exit → Type 0
 IsNoClient refusal (RefusedClient error) = refusal ≡ Some error
 IsNoClient refusal Memory = refusal ≡ None
 IsNoClient refusal fault = ⊥

@@ -6,24 +6,23 @@ ghost use Rattle.cog_client.specs.Client.{client_refusal};
 ghost use Rattle.programs.specs.Number.{IsOfNumber};
 ghost use Rattle.programs.specs.Words.{AsksNothing, HasNoNumber, IsAsked, IsNoClient, IsNoPick, IsNoWindow, IsPick, IsWindow, ahead_number, blocks_number, named_by, requests_number};
 
-use crate::fault::Fault;
+use crate::exit::Exit;
 use crate::number::{number, number_or};
 use clap::error::ErrorKind;
+use client_sockets::Socket;
 use cog_client::{Client, ClientError, Query};
 use command_lines::{
-    AskedWords, Place, PlaceError, ReadLine, WindowWords, is_url, place_of, read_line,
+    AskedWords, FileUrl, FileUrlError, ReadLine, WindowWords, file_url, is_url, read_line,
 };
-use describing::Form;
 use disk_files::replace_file;
-use exchange_notes::{Noted, NotedNet};
 use range_cache::{MAX_CAPACITY, MIN_CAPACITY};
-use reading::{Asked, Exchanges, ReadError, Telling, Text};
-use report_text::RefusalSentence;
-use sockets::Socket;
+use read_command::{Asked, Exchanges, ReadError, Text, Verbosity};
+use read_progress::{Noted, NotedNet, RefusalSentence};
 use std::alloc::{AllocError, Global};
 use std::io;
 use std::net::{Net, TcpStream};
 use std::rt::{Clock, Files};
+use text_description::Form;
 use tiff_dir::Pick;
 
 /// How many blocks are asked for early where a URL names the file.
@@ -38,7 +37,7 @@ struct Numbers {
     ahead: u32,
 }
 
-fn pick<R: AllocGlobal>(rt: &R, words: &WindowWords<'_>) -> Result<Pick, Fault>
+fn pick<R: AllocGlobal>(rt: &R, words: &WindowWords<'_>) -> Result<Pick, Exit>
     ensures ok { IfOk result (IsPick (option_copied words.now.level) (option_copied words.now.columns)) }
     ensures err { OnErr result (IsNoPick (option_copied words.now.level) (option_copied words.now.columns)) }
     ensures kinds { IfErr result IsOfNumber }
@@ -49,7 +48,7 @@ fn pick<R: AllocGlobal>(rt: &R, words: &WindowWords<'_>) -> Result<Pick, Fault>
     }
 }
 
-fn window<R: AllocGlobal>(rt: &R, words: &WindowWords<'_>) -> Result<Query, Fault>
+fn window<R: AllocGlobal>(rt: &R, words: &WindowWords<'_>) -> Result<Query, Exit>
     ensures ok { IfOk result (IsWindow words.now) }
     ensures err { OnErr result (IsNoWindow words.now) }
     ensures kinds { IfErr result IsOfNumber }
@@ -63,7 +62,7 @@ fn window<R: AllocGlobal>(rt: &R, words: &WindowWords<'_>) -> Result<Query, Faul
     })
 }
 
-fn asked<R: AllocGlobal>(rt: &R, words: AskedWords<'_>) -> Result<Asked, Fault>
+fn asked<R: AllocGlobal>(rt: &R, words: AskedWords<'_>) -> Result<Asked, Exit>
     ensures ok { IfOk result (IsAsked words.entry) }
     ensures err { OnErr result (AsksNothing words.entry) }
     ensures kinds { IfErr result IsOfNumber }
@@ -79,7 +78,7 @@ fn asked<R: AllocGlobal>(rt: &R, words: AskedWords<'_>) -> Result<Asked, Fault>
     }
 }
 
-fn numbers_of<R: AllocGlobal>(rt: &R, line: &ReadLine<'_>) -> Result<Numbers, Fault>
+fn numbers_of<R: AllocGlobal>(rt: &R, line: &ReadLine<'_>) -> Result<Numbers, Exit>
     ensures asked { IfOk result (λ numbers. IsAsked line.now.asked numbers.asked) }
     ensures requests { IfOk result (λ numbers. requests_number (option_copied line.now.requests) ≡ Some numbers.requests) }
     ensures blocks { IfOk result (λ numbers. blocks_number (option_copied line.now.blocks) ≡ Some numbers.blocks) }
@@ -96,11 +95,11 @@ fn numbers_of<R: AllocGlobal>(rt: &R, line: &ReadLine<'_>) -> Result<Numbers, Fa
 }
 
 /// What a line wants to be told of exchanges.
-fn telling_of(line: &ReadLine<'_>) -> Telling {
+fn telling_of(line: &ReadLine<'_>) -> Verbosity {
     match (line.verbose, line.progress) {
-        (true, _) => Telling::Each,
-        (false, true) => Telling::Progress,
-        (false, false) => Telling::Nothing,
+        (true, _) => Verbosity::Each,
+        (false, true) => Verbosity::Progress,
+        (false, false) => Verbosity::Nothing,
     }
 }
 
@@ -109,19 +108,19 @@ fn client_of<R: Eprint + AllocGlobal>(
     rt: &R,
     line: &ReadLine<'_>,
     blocks: u32,
-) -> Result<Client, Fault>
+) -> Result<Client, Exit>
     ensures starts { IfOk result (Starts line.now.server.now line.now.name.now blocks) }
     ensures err { IfErr result (IsNoClient (client_refusal line.now.server.now line.now.name.now blocks)) }
 {
     let server = line.server.as_bytes();
     match Client::new(rt.alloc(), server, line.name.as_bytes(), blocks) {
         Ok(client) => Ok(client),
-        Err(ClientError::Memory) => Err(Fault::Memory),
+        Err(ClientError::Memory) => Err(Exit::Memory),
         Err(refusal) => {
             if line.verbose {
                 let _ = eprintln!(rt; "cogread: {}", RefusalSentence(&refusal));
             }
-            Err(Fault::RefusedClient(refusal))
+            Err(Exit::RefusedClient(refusal))
         }
     }
 }
@@ -148,13 +147,13 @@ where
         rt,
         net: &net,
         requests: numbers.requests,
-        telling: telling_of(line),
+        verbosity: telling_of(line),
     };
     exchanges.text(client, &mut noted, numbers.asked)
 }
 
 /// Writes a text to a line's file, or to standard output.
-fn write_text<R>(rt: &R, line: &ReadLine<'_>, text: &Text<'_>) -> Result<(), Fault>
+fn write_text<R>(rt: &R, line: &ReadLine<'_>, text: &Text<'_>) -> Result<(), Exit>
 where
     R: Files + Print + Eprint + AllocGlobal,
 {
@@ -163,18 +162,18 @@ where
     };
     match replace_file(rt, path, &text.head, text.samples) {
         Ok(()) => Ok(()),
-        Err(error) if error.kind() == io::ErrorKind::OutOfMemory => Err(Fault::Memory),
+        Err(error) if error.kind() == io::ErrorKind::OutOfMemory => Err(Exit::Memory),
         Err(error) => {
             if line.verbose {
                 let _ = eprintln!(rt; "cogread: {path} isn't written: {error}");
             }
-            Err(Fault::CantWriteFile(String::from_str(rt.alloc(), path)?))
+            Err(Exit::CantWriteFile(String::from_str(rt.alloc(), path)?))
         }
     }
 }
 
 /// Reads what a line asks for, and writes it.
-fn run_read<R>(rt: &R, line: &ReadLine<'_>) -> Result<(), Fault>
+fn run_read<R>(rt: &R, line: &ReadLine<'_>) -> Result<(), Exit>
 where
     R: Files + Clock + Print + Eprint + AllocGlobal + Net<Stream = TcpStream>,
 {
@@ -189,7 +188,7 @@ fn read_with<R>(
     line: &ReadLine<'_>,
     numbers: Numbers,
     client: &mut Client,
-) -> Result<(), Fault>
+) -> Result<(), Exit>
 where
     R: Files + Clock + Print + Eprint + AllocGlobal + Net<Stream = TcpStream>,
 {
@@ -202,9 +201,10 @@ fn named_words(
     alloc: Global,
     words: &[&str],
     url: &str,
-    place: &Place<'_>,
+    place: &FileUrl<'_>,
 ) -> Result<Vec<String>, AllocError>
-    ensures { IfOk result (λ named. map string_bytes named.items ≡ named_by url.now (string_bytes place.now.server) place.now.name.now words.now) }
+    ensures { IfOk result (λ named. map string_bytes named.items
+        ≡ named_by url.now (string_bytes place.now.server) place.now.name.now words.now) }
 {
     let mut named = Vec::new(alloc);
     for word in words {
@@ -237,16 +237,16 @@ fn url_for_missing<'a>(refusal: &clap::Error, words: &[&'a str]) -> Option<&'a s
 }
 
 /// The words with the server and the name of a URL in its place.
-fn words_of_url<R: AllocGlobal>(rt: &R, words: &[&str], url: &str) -> Result<Vec<String>, Fault> {
-    match place_of(rt.alloc(), url) {
+fn words_of_url<R: AllocGlobal>(rt: &R, words: &[&str], url: &str) -> Result<Vec<String>, Exit> {
+    match file_url(rt.alloc(), url) {
         Ok(place) => Ok(named_words(rt.alloc(), words, url, &place)?),
-        Err(PlaceError::Memory) => Err(Fault::Memory),
-        Err(error) => Err(Fault::NotAPlace(String::from_str(rt.alloc(), url)?, error)),
+        Err(FileUrlError::Memory) => Err(Exit::Memory),
+        Err(error) => Err(Exit::NotAFileUrl(String::from_str(rt.alloc(), url)?, error)),
     }
 }
 
 /// Runs the program on words of which one is this URL, which stands for a server and a name. Its connection is kept, and it looks ahead.
-fn run_url<R>(rt: &R, words: &[&str], url: &str) -> Result<(), Fault>
+fn run_url<R>(rt: &R, words: &[&str], url: &str) -> Result<(), Exit>
 where
     R: Files + Clock + Print + Eprint + AllocGlobal + Net<Stream = TcpStream>,
 {
@@ -258,7 +258,7 @@ where
 }
 
 /// Runs the program on its words, of which the first is its own name.
-pub fn run_line<R>(rt: &R, words: &[&str]) -> Result<(), Fault>
+pub fn run_line<R>(rt: &R, words: &[&str]) -> Result<(), Exit>
 where
     R: Files + Clock + Print + Eprint + AllocGlobal + Net<Stream = TcpStream>,
 {
@@ -266,7 +266,7 @@ where
         Ok(line) => run_read(rt, &line),
         Err(refusal) => match url_for_missing(&refusal, words) {
             Some(url) => run_url(rt, words, url),
-            None => Err(Fault::from(refusal)),
+            None => Err(Exit::from(refusal)),
         },
     }
 }

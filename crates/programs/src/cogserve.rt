@@ -6,13 +6,15 @@ ghost use Rattle.programs.specs.Files.{AreFiles, IsFile, IsNoFile, IsOfFiles, Na
 ghost use Rattle.programs.specs.Number.{IsOfNumber, Names};
 ghost use Rattle.programs.specs.Words.{HasNoLimit, at_once_number, connections_number, number_32, patience_number};
 
-use crate::fault::Fault;
+use crate::exit::Exit;
 use crate::number::{number, number_or};
 use cog_server::{PublishError, Server};
 use command_lines::{ServeLine, serve_line};
 use disk_files::{WatchError, Watched};
-use served_files::{Log, NotPublished, ServeError, listen, publish_all, serve_connections};
-use serving::Limits;
+use server_files::{
+    AccessLog, NotPublished, ServeFilesError, listen, publish_all, serve_connections,
+};
+use server_sockets::Limits;
 use std::alloc::AllocError;
 use std::io::ErrorKind;
 use std::net::{Net, TcpListener, TcpStream};
@@ -20,7 +22,7 @@ use std::num::NonZeroUsize;
 use std::rt::{Clock, Files};
 
 /// Runs the program on its words, of which the first is its own name.
-pub fn run_line<R>(rt: &R, words: &[&str]) -> Result<(), Fault>
+pub fn run_line<R>(rt: &R, words: &[&str]) -> Result<(), Exit>
 where
     R: Files
         + Clock
@@ -33,27 +35,27 @@ where
     let mut server = server_of(rt, &line)?;
     let limits = limits_of(rt, &line)?;
     let mut files = files_of(rt, &line.files)?;
-    let mut log = Log {
+    let mut log = AccessLog {
         rt,
         is_kept: line.log,
     };
     match serve(&mut log, line.listen, &mut server, &mut files, limits) {
         Ok(()) => Ok(()),
         Err(error) => {
-            log.tell(&error);
-            Err(fault_of(rt, error)?)
+            log.print(&error);
+            Err(exit_of(rt, error)?)
         }
     }
 }
 
 /// Publishes the files, listens, and serves them.
 fn serve<'a, R>(
-    log: &mut Log<'_, R>,
+    log: &mut AccessLog<'_, R>,
     place: &str,
     server: &mut Server,
     files: &mut [Watched<'a>],
     limits: Limits,
-) -> Result<(), ServeError<'a>>
+) -> Result<(), ServeFilesError<'a>>
 where
     R: Files
         + Clock
@@ -68,7 +70,7 @@ where
 }
 
 /// A server of the words' epoch, without publications.
-fn server_of<R: AllocGlobal>(rt: &R, line: &ServeLine<'_>) -> Result<Server, Fault>
+fn server_of<R: AllocGlobal>(rt: &R, line: &ServeLine<'_>) -> Result<Server, Exit>
     ensures epoch { IfOk result (λ server. number_32 line.now.epoch.now ≡ Some server.epoch) }
     ensures empty { IfOk result (λ server. (server.count ≡ 0) × (server.catalogue ≡ [])) }
     ensures err { OnErr result (number_32 line.now.epoch.now ≡ None) }
@@ -80,7 +82,7 @@ fn server_of<R: AllocGlobal>(rt: &R, line: &ServeLine<'_>) -> Result<Server, Fau
 }
 
 /// What the words say of connections: 256 at once, and a patience of 60 seconds, where they don't.
-fn limits_of<R: AllocGlobal>(rt: &R, line: &ServeLine<'_>) -> Result<Limits, Fault>
+fn limits_of<R: AllocGlobal>(rt: &R, line: &ServeLine<'_>) -> Result<Limits, Exit>
     ensures connections { IfOk result (λ limits. connections_number line.now.connections.now ≡ Some limits.connections) }
     ensures at_once { IfOk result (λ limits. at_once_number (option_copied line.now.at_once)
         ≡ Some (non_zero_usize_get limits.at_once)) }
@@ -101,7 +103,7 @@ fn limits_of<R: AllocGlobal>(rt: &R, line: &ServeLine<'_>) -> Result<Limits, Fau
 }
 
 /// The file that a word names as `NAME=PATH`, cut at the first `=`.
-fn file_of<'a, R: AllocGlobal>(rt: &R, word: &'a str) -> Result<Watched<'a>, Fault>
+fn file_of<'a, R: AllocGlobal>(rt: &R, word: &'a str) -> Result<Watched<'a>, Exit>
     ensures ok { IfOk result (IsFile word.entry.now) }
     ensures err { OnErr result (IsNoFile word.entry.now) }
     ensures told { IfErr result (NamesFile word.entry.now) }
@@ -109,12 +111,12 @@ fn file_of<'a, R: AllocGlobal>(rt: &R, word: &'a str) -> Result<Watched<'a>, Fau
 {
     match word.split_once('=') {
         Some((name, path)) => Ok(Watched::new(name, path)),
-        None => Err(Fault::NotAFile(String::from_str(rt.alloc(), word)?)),
+        None => Err(Exit::NotAFile(String::from_str(rt.alloc(), word)?)),
     }
 }
 
 /// The files that the words name.
-fn files_of<'a, R: AllocGlobal>(rt: &R, words: &[&'a str]) -> Result<Vec<Watched<'a>>, Fault>
+fn files_of<'a, R: AllocGlobal>(rt: &R, words: &[&'a str]) -> Result<Vec<Watched<'a>>, Exit>
     ensures ok { IfOk result (λ files. AreFiles words.now files.items) }
     ensures told { IfErr result (NamesOneOf words.now) }
     ensures kinds { IfErr result IsOfFiles }
@@ -134,28 +136,30 @@ fn add_file<'a>(files: &mut Vec<Watched<'a>>, file: Watched<'a>) -> Result<(), A
 }
 
 /// The fault of a file that isn't published.
-fn fault_of_file<R: AllocGlobal>(rt: &R, file: NotPublished<'_>) -> Result<Fault, AllocError> {
+fn exit_of_file<R: AllocGlobal>(rt: &R, file: NotPublished<'_>) -> Result<Exit, AllocError> {
     match file.why {
-        WatchError::Refused(PublishError::Memory) => Ok(Fault::Memory),
+        WatchError::Refused(PublishError::Memory) => Ok(Exit::Memory),
         WatchError::Refused(refusal) => {
-            Ok(Fault::Refused(refusal, String::from_str(rt.alloc(), file.name)?))
+            Ok(Exit::Refused(refusal, String::from_str(rt.alloc(), file.name)?))
         }
-        WatchError::CantRead(error) if error.kind() == ErrorKind::OutOfMemory => Ok(Fault::Memory),
+        WatchError::CantRead(error) if error.kind() == ErrorKind::OutOfMemory => Ok(Exit::Memory),
         WatchError::CantRead(_) | WatchError::NotAFile => {
-            Ok(Fault::CantRead(String::from_str(rt.alloc(), file.path)?))
+            Ok(Exit::CantRead(String::from_str(rt.alloc(), file.path)?))
         }
     }
 }
 
 /// The fault of what ends the program.
-fn fault_of<R: AllocGlobal>(rt: &R, error: ServeError<'_>) -> Result<Fault, AllocError> {
+fn exit_of<R: AllocGlobal>(rt: &R, error: ServeFilesError<'_>) -> Result<Exit, AllocError> {
     match error {
-        ServeError::NotPublished(file) => fault_of_file(rt, file),
-        ServeError::CantListen(error) | ServeError::CantAccept(error) | ServeError::CantWait(error)
-            if error.kind() == ErrorKind::OutOfMemory => { Ok(Fault::Memory) }
-        ServeError::CantListen(_) => Ok(Fault::CantListen),
-        ServeError::CantAccept(_) => Ok(Fault::CantAccept),
-        ServeError::CantWait(_) => Ok(Fault::CantWait),
-        ServeError::CantWrite(error) => Ok(Fault::from(error)),
+        ServeFilesError::NotPublished(file) => exit_of_file(rt, file),
+        ServeFilesError::CantListen(error)
+        | ServeFilesError::CantAccept(error)
+        | ServeFilesError::CantWait(error)
+            if error.kind() == ErrorKind::OutOfMemory => { Ok(Exit::Memory) }
+        ServeFilesError::CantListen(_) => Ok(Exit::CantListen),
+        ServeFilesError::CantAccept(_) => Ok(Exit::CantAccept),
+        ServeFilesError::CantWait(_) => Ok(Exit::CantWait),
+        ServeFilesError::CantWrite(error) => Ok(Exit::from(error)),
     }
 }

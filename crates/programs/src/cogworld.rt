@@ -6,7 +6,7 @@ ghost use Rattle.world.specs.World.{AtEach, IsTrueEntry, start};
 ghost use Rattle.programs.specs.Printed.{IsPrinted};
 
 use crate::disk::Disk;
-use crate::fault::Fault;
+use crate::exit::Exit;
 use crate::number::number;
 use crate::stored;
 use cog_fetch::ANSWER_LIMIT;
@@ -44,7 +44,7 @@ fn write_log<S: Source, W: Write>(
     source: &mut S,
     piece: Option<u32>,
     out: &mut W,
-) -> Result<Result<(), Memory>, Fault>
+) -> Result<Result<(), Memory>, Exit>
     ensures { IfOk result (λ ran. (printed : List ℕ) × IsPrinted (S.finds source.old) text.now ran printed
         × Appends (W.contents out.old) (W.contents out.new) printed) }
 {
@@ -61,19 +61,19 @@ fn run_script<R: Print + AllocGlobal, S: Source>(
     text: &[u8],
     source: &mut S,
     piece: Option<u32>,
-) -> Result<(), Fault> {
+) -> Result<(), Exit> {
     Ok(write_log(rt.alloc(), text, source, piece, &mut io::writer(rt))??)
 }
 
 /// Runs the stored script.
-pub fn run_stored<R: Print + AllocGlobal>(rt: &R) -> Result<(), Fault> {
+pub fn run_stored<R: Print + AllocGlobal>(rt: &R) -> Result<(), Exit> {
     let mut files = Loaded::new(rt.alloc());
     files.add(b"f1.tif", Vec::from_slice(rt.alloc(), &stored::FILE)?)?;
     run_script(rt, stored::SCRIPT, &mut files, None)
 }
 
 /// Runs the script that the program's words name, of which the first is its own name.
-pub fn run_line<R: Files + Print + AllocGlobal>(rt: &R, words: &[&str]) -> Result<(), Fault> {
+pub fn run_line<R: Files + Print + AllocGlobal>(rt: &R, words: &[&str]) -> Result<(), Exit> {
     let line = world_line(rt.alloc(), words)?;
     let piece = match line.pieces {
         Some(word) => Some(number(rt, word, 1, MOST_BYTES)?),
@@ -86,10 +86,10 @@ fn run_file<R: Files + Print + AllocGlobal>(
     rt: &R,
     path: &str,
     piece: Option<u32>,
-) -> Result<(), Fault> {
+) -> Result<(), Exit> {
     match fs::read(rt, path) {
         Ok(text) => run_script(rt, &text, &mut Disk { rt }, piece),
-        Err(error) if error.kind() == io::ErrorKind::OutOfMemory => Err(Fault::Memory),
-        Err(_) => Err(Fault::CantRead(String::from_str(rt.alloc(), path)?)),
+        Err(error) if error.kind() == io::ErrorKind::OutOfMemory => Err(Exit::Memory),
+        Err(_) => Err(Exit::CantRead(String::from_str(rt.alloc(), path)?)),
     }
 }

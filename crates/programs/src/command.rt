@@ -3,7 +3,7 @@
 ghost use Rattle.std.specs.Prelude.{◌≡◌, MatchResult};
 ghost use Rattle.programs.specs.Status.{EndsWith};
 
-use crate::fault::Fault;
+use crate::exit::Exit;
 use crate::{cogread, cogserve, cogworld};
 use command_lines::VERSION;
 use std::alloc::{AllocError, Global};
@@ -121,7 +121,7 @@ fn words_of<'a>(
 }
 
 /// Runs a program on its words: the command as it was typed, and those behind it.
-fn run_program<R>(rt: &R, program: Program, command: &str, rest: &[String]) -> Result<(), Fault>
+fn run_program<R>(rt: &R, program: Program, command: &str, rest: &[String]) -> Result<(), Exit>
 where
     R: Files
         + Clock
@@ -139,7 +139,7 @@ where
 }
 
 /// Runs what the words name, by the command's own name. Without a word the script "one window" is run, with its file from memory.
-fn run_command<R>(rt: &R, name: &str, command: Command<'_>) -> Result<(), Fault>
+fn run_command<R>(rt: &R, name: &str, command: Command<'_>) -> Result<(), Exit>
 where
     R: Files
         + Clock
@@ -157,7 +157,7 @@ where
         }
         Command::Word("-h" | "--help") => Ok(rt.println(help(rt.alloc(), name)?)?),
         Command::Word("-V" | "--version") => Ok(println!(rt; "{name} {VERSION}")?),
-        Command::Word(word) => Err(Fault::NotAProgram(String::from_str(rt.alloc(), word)?)),
+        Command::Word(word) => Err(Exit::NotAProgram(String::from_str(rt.alloc(), word)?)),
     }
 }
 
@@ -177,7 +177,7 @@ where
 }
 
 /// The status of a program that has ended, whose fault is told.
-fn status_of<R: Print + Eprint>(rt: &R, program: &str, ended: &Result<(), Fault>) -> u8
+fn status_of<R: Print + Eprint>(rt: &R, program: &str, ended: &Result<(), Exit>) -> u8
     ensures { MatchResult ended.now (λ _. result ≡ 0) (λ fault. EndsWith fault result) }
 {
     match ended {

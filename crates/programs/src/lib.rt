@@ -6,10 +6,10 @@ mod cogserve;
 mod cogworld;
 mod command;
 mod disk;
-mod fault;
+mod exit;
 mod number;
 mod stored;
 
 pub use command::run;
 pub use disk::Disk;
-pub use fault::Fault;
+pub use exit::Exit;

@@ -4,11 +4,11 @@ ghost use Rattle.std.specs.Option.{option_copied};
 ghost use Rattle.command_lines.specs.Number.{number_from};
 ghost use Rattle.programs.specs.Number.{IsOfNumber, Names, number_or};
 
-use crate::fault::Fault;
+use crate::exit::Exit;
 use command_lines::number_from;
 
 /// The number that a word writes, from `least` to `greatest`.
-pub fn number<R: AllocGlobal>(rt: &R, word: &str, least: u32, greatest: u32) -> Result<u32, Fault>
+pub fn number<R: AllocGlobal>(rt: &R, word: &str, least: u32, greatest: u32) -> Result<u32, Exit>
     ensures ok { IfOk result (λ n. number_from least greatest word.now ≡ Some n) }
     ensures err { OnErr result (number_from least greatest word.now ≡ None) }
     ensures told { IfErr result (Names word.now) }
@@ -17,7 +17,7 @@ pub fn number<R: AllocGlobal>(rt: &R, word: &str, least: u32, greatest: u32) -> 
 {
     match number_from(word, least, greatest) {
         Some(n) => Ok(n),
-        None => Err(Fault::NotANumber(String::from_str(rt.alloc(), word)?)),
+        None => Err(Exit::NotANumber(String::from_str(rt.alloc(), word)?)),
     }
 }
 
@@ -28,7 +28,7 @@ pub fn number_or<R: AllocGlobal>(
     least: u32,
     greatest: u32,
     default: u32,
-) -> Result<u32, Fault>
+) -> Result<u32, Exit>
     ensures ok { IfOk result (λ n. number_or least greatest default (option_copied word.entry) ≡ Some n) }
     ensures err { OnErr result (number_or least greatest default (option_copied word.entry) ≡ None) }
     ensures told { IfErr result (λ fault. IfSome (option_copied word.entry) (λ told. Names told fault)) }

@@ -3,14 +3,14 @@
 //!
 //! | Line | Status | Shown in |
 //! |---|---|---|
-//! | help, on standard output | 0 | `command_line_tests` |
+//! | help, on standard output | 0 | `line_forms` |
 //! | `cogtools: not a program: WORD`, `cogtools: a word isn't text` | 2 | `worlds`, `faults` |
-//! | faults of the form of a line | 2 | `command_line_tests` |
+//! | faults of the form of a line | 2 | `line_forms` |
 //! | `PROGRAM: not a number: WORD` | 2 | `serves`, `read_faults`, `worlds` |
 //! | `cogserve: not a file: WORD` | 2 | `serves` |
 //! | `cogserve: can't read PATH`, `cogserve: refused K NAME`, `cogserve: can't listen` | 1 | `serves`; 5 of the refusals in `faults` |
-//! | `cogserve: can't accept` | 1 | `served_files_tests` |
-//! | why it ends, with a log (`--log`) | 1 | `serves`; the lines of the log in `served_files_tests` |
+//! | `cogserve: can't accept` | 1 | `server_files_tests` |
+//! | why it ends, with a log (`--log`) | 1 | `serves`; the lines of the log in `server_files_tests` |
 //! | `cogread: refused K`, `cogread: not a place: URL: ..` | 2 | `read_faults` |
 //! | each exchange, and why there is no window (`--verbose`) | | `cogread_tests` |
 //! | how far the exchanges have come (`--progress`) | | `cogread_tests` |

@@ -1,6 +1,7 @@
 //! Tests of what the command prints and ends with.
 mod disk;
 mod faults;
+mod line_forms;
 mod output;
 mod read_faults;
 mod serves;

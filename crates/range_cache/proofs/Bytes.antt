@@ -9,8 +9,8 @@ use Rattle.std.specs.Global.{Vec}
 use Rattle.std.specs.List.{All, range_with_len, slice_range}
 use Rattle.std.specs.Map.{lookup, lookup_entry}
 use Rattle.std.specs.Option.{option_map_or}
-use Rattle.tiff_dir.specs.declared.limits.TheConstants.{BLOCK_SIZE}
-use Rattle.tiff_dir.specs.Block.{block_of, first_block, blocks}
+use Rattle.extents.specs.declared.limits.TheConstants.{BLOCK_SIZE}
+use Rattle.extents.specs.Block.{block_of, first_block, blocks}
 use Rattle.range_cache.specs.Numbers.{has, AreThere}
 use Rattle.range_cache.specs.Cache.{Block, block_at, blocks_in, byte_at, left_in, numbers}
 use Rattle.range_cache.proofs.Entries.{block, is_some-lookup_entry, number_of_entry}

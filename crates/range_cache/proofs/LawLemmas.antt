@@ -6,8 +6,8 @@ use Rattle.std.proofs.lemmas.Bool.Decides.{eqb_tells}
 use Rattle.std.proofs.lemmas.List.{length-map}
 use Rattle.std.proofs.lemmas.List.Elements.{All-head, All-tail, All-take}
 use Rattle.std.specs.List.{All, filter, range_with_len}
-use Rattle.tiff_dir.specs.declared.span.Span.{Span}
-use Rattle.tiff_dir.specs.Block.{block_count}
+use Rattle.extents.specs.declared.span.Span.{Span}
+use Rattle.extents.specs.Block.{block_count}
 use Rattle.range_cache.specs.Numbers.{has, missing, AreGone, IsGap, IsLed, Stays}
 use Rattle.range_cache.specs.Cache.{Block, Blocks, block_at, numbers, put_one, stored, stores, Holds}
 use Rattle.range_cache.specs.Piece.{block_in, is_brought, whole_blocks, IsPieceOf}
@@ -105,12 +105,12 @@ has-filter p block n a (suc count) named t low high =
           ]
     ]
 
-pub whole-brought : (complete first : ℕ) (bytes : List ℕ) (wanted : Span) (n : ℕ) →
-    is_brought complete first (length bytes) wanted n ≡ true → has n (numbers (whole_blocks complete first bytes wanted)) ≡ true
+pub whole-brought : (file_length first : ℕ) (bytes : List ℕ) (wanted : Span) (n : ℕ) →
+    is_brought file_length first (length bytes) wanted n ≡ true → has n (numbers (whole_blocks file_length first bytes wanted)) ≡ true
 unfolding whole_blocks
-whole-brought complete first bytes wanted n t =
-    let lies = lies_in complete first (first + length bytes) n (and_parts _ _ t).0 in
-    has-filter (is_brought complete first (length bytes) wanted) (block_in complete first bytes) n 0 (block_count complete) (λ k. refl) t (omega arith) (omega (arith, lies.there))
+whole-brought file_length first bytes wanted n t =
+    let lies = lies_in file_length first (first + length bytes) n (and_parts _ _ t).0 in
+    has-filter (is_brought file_length first (length bytes) wanted) (block_in file_length first bytes) n 0 (block_count file_length) (λ k. refl) t (omega arith) (omega (arith, lies.there))
 
 length-filter-between : (p : ℕ → Bool) (lo hi a count : ℕ) → ((k : ℕ) → a ≤ k → p k ≡ true → (lo ≤ k) × (k < hi)) → length (filter p (range_with_len a count)) ≤ hi - max lo a
 length-filter-between p lo hi a zero only = omega arith
@@ -122,40 +122,40 @@ length-filter-between p lo hi a (suc count) only =
       | false ↦ λ _. omega (arith, later)
     ]) refl
 
-pub whole-few : (complete first : ℕ) (bytes : List ℕ) (wanted : Span) (n : ℕ) → wanted.last < wanted.first + n * 16384 → length (whole_blocks complete first bytes wanted) ≤ n
+pub whole-few : (file_length first : ℕ) (bytes : List ℕ) (wanted : Span) (n : ℕ) → wanted.last < wanted.first + n * 16384 → length (whole_blocks file_length first bytes wanted) ≤ n
 unfolding whole_blocks
-whole-few complete first bytes wanted n short =
-    let p : ℕ → Bool = is_brought complete first (length bytes) wanted in
+whole-few file_length first bytes wanted n short =
+    let p : ℕ → Bool = is_brought file_length first (length bytes) wanted in
     let lo : ℕ = (wanted.first + 16383) / 16384 in
     let hi : ℕ = wanted.last / 16384 + 1 in
     let inside : (k : ℕ) → 0 ≤ k → p k ≡ true → (lo ≤ k) × (k < hi) = λ k _ t.
-    let lies = lies_in complete wanted.first (wanted.last + 1) k (and_parts _ _ t).1 in
+    let lies = lies_in file_length wanted.first (wanted.last + 1) k (and_parts _ _ t).1 in
     (omega (arith, lies.begins), omega (arith, lies.there, lies.ends)) in
-    let few = length-filter-between p lo hi 0 (block_count complete) inside in
-    let same = length-map (filter p (range_with_len 0 (block_count complete))) (block_in complete first bytes) in
+    let few = length-filter-between p lo hi 0 (block_count file_length) inside in
+    let same = length-map (filter p (range_with_len 0 (block_count file_length))) (block_in file_length first bytes) in
     omega (arith, few, same, short)
 
 -- blocks of a piece of f are f's, and so are they where they are stored
 
-pub stored_holds : (f : List ℕ) (c : Blocks) (complete first : ℕ) (bytes : List ℕ) (wanted : Span) → complete ≡ length f → IsPieceOf f first bytes → Holds f c →
-    Holds f (record c { entries = stored c.capacity (whole_blocks complete first bytes wanted) c.entries })
+pub stored_holds : (f : List ℕ) (c : Blocks) (file_length first : ℕ) (bytes : List ℕ) (wanted : Span) → file_length ≡ length f → IsPieceOf f first bytes → Holds f c →
+    Holds f (record c { entries = stored c.capacity (whole_blocks file_length first bytes wanted) c.entries })
 unfolding Holds
-stored_holds f c complete first bytes wanted whole piece held =
-    All-stored (IsOf f) c.capacity (whole_blocks complete first bytes wanted) c.entries (all_whole f bytes complete first wanted whole piece) held
+stored_holds f c file_length first bytes wanted whole piece held =
+    All-stored (IsOf f) c.capacity (whole_blocks file_length first bytes wanted) c.entries (all_whole f bytes file_length first wanted whole piece) held
 
-pub front_holds : (f : List ℕ) (c : Blocks) (complete first : ℕ) (bytes : List ℕ) (wanted : Span) (k : ℕ) → complete ≡ length f → IsPieceOf f first bytes → Holds f c →
-    Holds f (record c { entries = stored c.capacity (take k (whole_blocks complete first bytes wanted)) c.entries })
+pub front_holds : (f : List ℕ) (c : Blocks) (file_length first : ℕ) (bytes : List ℕ) (wanted : Span) (k : ℕ) → file_length ≡ length f → IsPieceOf f first bytes → Holds f c →
+    Holds f (record c { entries = stored c.capacity (take k (whole_blocks file_length first bytes wanted)) c.entries })
 unfolding Holds
-front_holds f c complete first bytes wanted k whole piece held =
-    let new : List Block = whole_blocks complete first bytes wanted in
-    All-stored (IsOf f) c.capacity (take k new) c.entries (All-take (IsOf f) k new (all_whole f bytes complete first wanted whole piece)) held
+front_holds f c file_length first bytes wanted k whole piece held =
+    let new : List Block = whole_blocks file_length first bytes wanted in
+    All-stored (IsOf f) c.capacity (take k new) c.entries (All-take (IsOf f) k new (all_whole f bytes file_length first wanted whole piece)) held
 
 -- nothing that is stored is there, and there is room for it
 
-pub stored_stay : (c : Blocks) (complete first : ℕ) (bytes : List ℕ) (wanted : Span) (n count : ℕ) → AreGone (numbers c.entries) (numbers (whole_blocks complete first bytes wanted))
-    → count - missing (numbers c.entries) n count + length (whole_blocks complete first bytes wanted) ≤ c.capacity → IsLed (numbers c.entries) n count
-    → Stays (numbers c.entries) (numbers (stored c.capacity (whole_blocks complete first bytes wanted) c.entries)) n count (numbers (whole_blocks complete first bytes wanted))
-stored_stay c complete first bytes wanted n count gone room led = stored_stays c.capacity n count (whole_blocks complete first bytes wanted) c.entries gone room led
+pub law_stored_stay : (c : Blocks) (file_length first : ℕ) (bytes : List ℕ) (wanted : Span) (n count : ℕ) → AreGone (numbers c.entries) (numbers (whole_blocks file_length first bytes wanted))
+    → count - missing (numbers c.entries) n count + length (whole_blocks file_length first bytes wanted) ≤ c.capacity → IsLed (numbers c.entries) n count
+    → Stays (numbers c.entries) (numbers (stored c.capacity (whole_blocks file_length first bytes wanted) c.entries)) n count (numbers (whole_blocks file_length first bytes wanted))
+law_stored_stay c file_length first bytes wanted n count gone room led = stored_stays c.capacity n count (whole_blocks file_length first bytes wanted) c.entries gone room led
 
 -- a run that is missing is among what is missing
 
@@ -182,9 +182,9 @@ among_all P n (b ∷ bs) all among =
       | false ↦ λ _ later. among_all P n bs (All-tail (λ (c : Block). P c.0) b bs all) later
     ]) refl among
 
-pub only-brought : (complete first : ℕ) (bytes : List ℕ) (wanted : Span) (n : ℕ) →
-    has n (numbers (whole_blocks complete first bytes wanted)) ≡ true → is_brought complete first (length bytes) wanted n ≡ true
+pub only-brought : (file_length first : ℕ) (bytes : List ℕ) (wanted : Span) (n : ℕ) →
+    has n (numbers (whole_blocks file_length first bytes wanted)) ≡ true → is_brought file_length first (length bytes) wanted n ≡ true
 unfolding whole_blocks
-only-brought complete first bytes wanted n among =
-    let P : ℕ → Type 0 = λ k. is_brought complete first (length bytes) wanted k ≡ true in
-    among_all P n (whole_blocks complete first bytes wanted) (all_brought (λ b. P b.0) complete first bytes wanted (λ k t. t) (range_with_len 0 (block_count complete))) among
+only-brought file_length first bytes wanted n among =
+    let P : ℕ → Type 0 = λ k. is_brought file_length first (length bytes) wanted k ≡ true in
+    among_all P n (whole_blocks file_length first bytes wanted) (all_brought (λ b. P b.0) file_length first bytes wanted (λ k t. t) (range_with_len 0 (block_count file_length))) among

@@ -6,8 +6,8 @@ use Rattle.std.proofs.lemmas.Bool.{le-leb, and_parts, cases_lt}
 use Rattle.std.proofs.lemmas.List.{take-append-le, drop-append-le}
 use Rattle.std.proofs.lemmas.List.Elements.{All-head, All-tail}
 use Rattle.std.specs.List.{All, filter, range_with_len, slice_range}
-use Rattle.tiff_dir.specs.declared.span.Span.{Span}
-use Rattle.tiff_dir.specs.Block.{block_count, end_of, is_whole}
+use Rattle.extents.specs.declared.span.Span.{Span}
+use Rattle.extents.specs.Block.{block_count, end_of, is_whole}
 use Rattle.range_cache.specs.Numbers.{has}
 use Rattle.range_cache.specs.Cache.{Block, Blocks, numbers, put_one, stored, stores}
 use Rattle.range_cache.specs.Piece.{block_in, is_brought, is_wanted, whole_blocks}
@@ -119,7 +119,7 @@ slice_second x y a b =
     let count : length x + b - (length x + a) ≡ b - a = omega arith in
     ap (take (length x + b - (length x + a))) (drop-append-add x y a) ∙ ap (λ n. take n (drop a y)) count
 
-module _ (complete first : ℕ) (x y : List ℕ) (wanted : Span) (edge : IsEdge complete (first + length x)) where
+module _ (file_length first : ℕ) (x y : List ℕ) (wanted : Span) (edge : IsEdge file_length (first + length x)) where
   abbrev at : ℕ
   at = first + length x
 
@@ -128,55 +128,55 @@ module _ (complete first : ℕ) (x y : List ℕ) (wanted : Span) (edge : IsEdge 
   s = (at + 16383) / 16384
 
   -- a block before the edge ends by it, one after it begins after it
-  ends_before : (k : ℕ) → k < s → end_of complete k ≤ at
+  ends_before : (k : ℕ) → k < s → end_of file_length k ≤ at
   ends_before k below = elim edge [ inl e ↦ omega (arith, e) | inr m ↦ omega (arith, m.1) ]
 
   wanted_here : ℕ → Bool
-  wanted_here k = is_whole complete wanted.first (wanted.last + 1) k
+  wanted_here k = is_whole file_length wanted.first (wanted.last + 1) k
 
-  below_same : (k : ℕ) → k < s → is_brought complete first (length (x ++ y)) wanted k ≡ is_brought complete first (length x) wanted k
+  below_same : (k : ℕ) → k < s → is_brought file_length first (length (x ++ y)) wanted k ≡ is_brought file_length first (length x) wanted k
   below_same k below =
       let ends = ends_before k below in
       let long = length-append x y in
-      let a : leb (end_of complete k) (first + length (x ++ y)) ≡ true = le-leb _ _ (omega (arith, ends, long)) in
-      let b : leb (end_of complete k) at ≡ true = le-leb _ _ ends in
-      ap (λ t. ((ltb (k * 16384) complete && leb first (k * 16384)) && t) && is_whole complete wanted.first (wanted.last + 1) k) (a ∙ sym b)
+      let a : leb (end_of file_length k) (first + length (x ++ y)) ≡ true = le-leb _ _ (omega (arith, ends, long)) in
+      let b : leb (end_of file_length k) at ≡ true = le-leb _ _ ends in
+      ap (λ t. ((ltb (k * 16384) file_length && leb first (k * 16384)) && t) && is_whole file_length wanted.first (wanted.last + 1) k) (a ∙ sym b)
 
-  above_same : (k : ℕ) → s ≤ k → is_brought complete first (length (x ++ y)) wanted k ≡ is_brought complete at (length y) wanted k
+  above_same : (k : ℕ) → s ≤ k → is_brought file_length first (length (x ++ y)) wanted k ≡ is_brought file_length at (length y) wanted k
   above_same k above =
       let a : leb first (k * 16384) ≡ true = le-leb _ _ (omega arith) in
       let b : leb at (k * 16384) ≡ true = le-leb _ _ (omega arith) in
       let end : first + length (x ++ y) ≡ at + length y = omega (arith, length-append x y) in
-      ap (λ t. ((ltb (k * 16384) complete && t) && leb (end_of complete k) (first + length (x ++ y))) && is_whole complete wanted.first (wanted.last + 1) k) (a ∙ sym b)
-      ∙ ap (λ e. is_whole complete at e k && is_whole complete wanted.first (wanted.last + 1) k) end
+      ap (λ t. ((ltb (k * 16384) file_length && t) && leb (end_of file_length k) (first + length (x ++ y))) && is_whole file_length wanted.first (wanted.last + 1) k) (a ∙ sym b)
+      ∙ ap (λ e. is_whole file_length at e k && is_whole file_length wanted.first (wanted.last + 1) k) end
 
-  first_ends : (k : ℕ) → s ≤ k → is_brought complete first (length x) wanted k ≡ false
-  first_ends k above = never _ (λ t. let l = lies_in complete first at k (and_parts _ _ t).0 in absurd (omega (arith, l.there, l.ends)))
+  first_ends : (k : ℕ) → s ≤ k → is_brought file_length first (length x) wanted k ≡ false
+  first_ends k above = never _ (λ t. let l = lies_in file_length first at k (and_parts _ _ t).0 in absurd (omega (arith, l.there, l.ends)))
 
-  second_begins : (k : ℕ) → k < s → is_brought complete at (length y) wanted k ≡ false
-  second_begins k below = never _ (λ t. let l = lies_in complete at (at + length y) k (and_parts _ _ t).0 in absurd (omega (arith, l.begins)))
+  second_begins : (k : ℕ) → k < s → is_brought file_length at (length y) wanted k ≡ false
+  second_begins k below = never _ (λ t. let l = lies_in file_length at (at + length y) k (and_parts _ _ t).0 in absurd (omega (arith, l.begins)))
 
-  first_same : (k : ℕ) → is_brought complete first (length x) wanted k ≡ true → block_in complete first (x ++ y) k ≡ block_in complete first x k
+  first_same : (k : ℕ) → is_brought file_length first (length x) wanted k ≡ true → block_in file_length first (x ++ y) k ≡ block_in file_length first x k
   first_same k t =
-      let l = lies_in complete first at k (and_parts _ _ t).0 in
-      ap (λ bytes. (k, bytes)) (slice_first x y (k * 16384 - first) (end_of complete k - first) (omega (arith, l.ends, l.begins)))
+      let l = lies_in file_length first at k (and_parts _ _ t).0 in
+      ap (λ bytes. (k, bytes)) (slice_first x y (k * 16384 - first) (end_of file_length k - first) (omega (arith, l.ends, l.begins)))
 
-  second_same : (k : ℕ) → is_brought complete at (length y) wanted k ≡ true → block_in complete first (x ++ y) k ≡ block_in complete at y k
+  second_same : (k : ℕ) → is_brought file_length at (length y) wanted k ≡ true → block_in file_length first (x ++ y) k ≡ block_in file_length at y k
   second_same k t =
-      let l = lies_in complete at (at + length y) k (and_parts _ _ t).0 in
+      let l = lies_in file_length at (at + length y) k (and_parts _ _ t).0 in
       let a : k * 16384 - first ≡ length x + (k * 16384 - at) = omega (arith, l.begins) in
-      let b : end_of complete k - first ≡ length x + (end_of complete k - at) = omega (arith, l.begins, l.there) in
+      let b : end_of file_length k - first ≡ length x + (end_of file_length k - at) = omega (arith, l.begins, l.there) in
       ap (λ bytes. (k, bytes))
-      (ap (λ n. slice_range (x ++ y) n (end_of complete k - first)) a
+      (ap (λ n. slice_range (x ++ y) n (end_of file_length k - first)) a
       ∙ ap (slice_range (x ++ y) (length x + (k * 16384 - at))) b
-      ∙ slice_second x y (k * 16384 - at) (end_of complete k - at))
+      ∙ slice_second x y (k * 16384 - at) (end_of file_length k - at))
 
-  at_edge : whole_blocks complete first (x ++ y) wanted ≡ whole_blocks complete first x wanted ++ whole_blocks complete at y wanted
+  at_edge : whole_blocks file_length first (x ++ y) wanted ≡ whole_blocks file_length first x wanted ++ whole_blocks file_length at y wanted
   unfolding whole_blocks
   at_edge =
-      parted (is_brought complete first (length (x ++ y)) wanted) (is_brought complete first (length x) wanted)
-      (is_brought complete at (length y) wanted) (block_in complete first (x ++ y)) (block_in complete first x) (block_in complete at y)
-      s 0 (block_count complete)
+      parted (is_brought file_length first (length (x ++ y)) wanted) (is_brought file_length first (length x) wanted)
+      (is_brought file_length at (length y) wanted) (block_in file_length first (x ++ y)) (block_in file_length first x) (block_in file_length at y)
+      s 0 (block_count file_length)
       (record {
         below = below_same;
         above = above_same;
@@ -187,17 +187,17 @@ module _ (complete first : ℕ) (x y : List ℕ) (wanted : Span) (edge : IsEdge 
       })
 
 pub edges_part : EdgesPart
-edges_part complete first front rest wanted edge = at_edge complete first front rest wanted edge
+edges_part file_length first front rest wanted edge = at_edge file_length first front rest wanted edge
 
 -- ---- parts of a block
 
 pub parts_bring_none : PartsBringNone
 unfolding whole_blocks
-parts_bring_none complete first bytes wanted n part =
-    ap (map (block_in complete first bytes))
-    (filter_none (is_brought complete first (length bytes) wanted) 0 (block_count complete) (λ k _. never _ (λ t. missed k (lies_in complete first (first + length bytes) k (and_parts _ _ t).0))))
+parts_bring_none file_length first bytes wanted n part =
+    ap (map (block_in file_length first bytes))
+    (filter_none (is_brought file_length first (length bytes) wanted) 0 (block_count file_length) (λ k _. never _ (λ t. missed k (lies_in file_length first (first + length bytes) k (and_parts _ _ t).0))))
   where
-    missed : (k : ℕ) → LiesIn complete first (first + length bytes) k → ⊥
+    missed : (k : ℕ) → LiesIn file_length first (first + length bytes) k → ⊥
     missed k l =
         let begins = part.begins in
         let ends = part.ends in
@@ -208,24 +208,24 @@ parts_bring_none complete first bytes wanted n part =
 
 pub beside_bring_none : BesideBringNone
 unfolding whole_blocks
-beside_bring_none complete first bytes wanted beside =
-    ap (map (block_in complete first bytes))
-    (filter_none (is_brought complete first (length bytes) wanted) 0 (block_count complete) (λ k _. never _ (λ t.
+beside_bring_none file_length first bytes wanted beside =
+    ap (map (block_in file_length first bytes))
+    (filter_none (is_brought file_length first (length bytes) wanted) 0 (block_count file_length) (λ k _. never _ (λ t.
     let parts = and_parts _ _ t in
-    missed k (lies_in complete first (first + length bytes) k parts.0) (lies_in complete wanted.first (wanted.last + 1) k parts.1))))
+    missed k (lies_in file_length first (first + length bytes) k parts.0) (lies_in file_length wanted.first (wanted.last + 1) k parts.1))))
   where
-    missed : (k : ℕ) → LiesIn complete first (first + length bytes) k → LiesIn complete wanted.first (wanted.last + 1) k → ⊥
+    missed : (k : ℕ) → LiesIn file_length first (first + length bytes) k → LiesIn file_length wanted.first (wanted.last + 1) k → ⊥
     missed k l w = omega (arith, beside, l.there, l.begins, l.ends, w.begins, w.ends)
 
-module _ (complete first : ℕ) (front rest : List ℕ) (wanted : Span) (n : ℕ) (is : IsCutIn complete first front rest n) where
+module _ (file_length first : ℕ) (front rest : List ℕ) (wanted : Span) (n : ℕ) (is : IsCutIn file_length first front rest n) where
   abbrev w : ℕ → List ℕ → List Block
-  w place bytes = whole_blocks complete place bytes wanted
+  w place bytes = whole_blocks file_length place bytes wanted
 
   abbrev start : ℕ
   start = n * 16384
 
   abbrev m : ℕ
-  m = lacking complete first front n
+  m = lacking file_length first front n
 
   -- the whole blocks of the front, and the block that is cut
   abbrev before : List ℕ
@@ -247,16 +247,16 @@ module _ (complete first : ℕ) (front rest : List ℕ) (wanted : Span) (n : ℕ
       let a = is.begins in let b = is.reached in
       omega (arith, a, b, length-drop (start - first) front)
 
-  long_block : start + length block ≡ end_of complete n
+  long_block : start + length block ≡ end_of file_length n
   long_block =
       let a = is.cut in let b = is.ends in
       omega (arith, a, b, long_part, length-append part (take m rest), length-take m rest)
 
-  edge_before : IsEdge complete (first + length before)
+  edge_before : IsEdge file_length (first + length before)
   edge_before = inr (n, begins_at)
 
-  edge_behind : IsEdge complete (start + length block)
-  edge_behind = elim (cases_lt ((n + 1) * 16384) complete) [
+  edge_behind : IsEdge file_length (start + length block)
+  edge_behind = elim (cases_lt ((n + 1) * 16384) file_length) [
     | inl inside ↦ inr (n + 1, omega (arith, inside, long_block))
     | inr last ↦ inl (omega (arith, last, long_block))
   ]
@@ -268,35 +268,35 @@ module _ (complete first : ℕ) (front rest : List ℕ) (wanted : Span) (n : ℕ
       ∙ ap (λ t. before ++ (part ++ t)) (sym (take-append-drop m rest))
       ∙ ap (λ t. before ++ t) (sym (append_assoc part (take m rest) (drop m rest)))
 
-  behind : w start (block ++ drop m rest) ≡ w start block ++ w (end_of complete n) (drop m rest)
+  behind : w start (block ++ drop m rest) ≡ w start block ++ w (end_of file_length n) (drop m rest)
   behind =
-      edges_part complete start block (drop m rest) wanted edge_behind
+      edges_part file_length start block (drop m rest) wanted edge_behind
       ∙ ap (λ place. w start block ++ w place (drop m rest)) long_block
 
   none : w start part ≡ []
   none =
       let cut = is.cut in
-      parts_bring_none complete start part wanted n
+      parts_bring_none file_length start part wanted n
       (record { begins = omega arith; ends = omega (arith, cut, long_part); lacks = inr (omega (arith, cut, long_part)) })
 
   of_front : w first front ≡ w first before
   of_front =
       ap (w first) (sym (take-append-drop (start - first) front))
-      ∙ edges_part complete first before part wanted edge_before
+      ∙ edges_part file_length first before part wanted edge_before
       ∙ ap (λ place. w first before ++ w place part) begins_at
       ∙ ap (λ bs. w first before ++ bs) none
       ∙ append-nil (w first before)
 
-  cut_parts : w first (front ++ rest) ≡ w first front ++ (w start block ++ w (end_of complete n) (drop m rest))
+  cut_parts : w first (front ++ rest) ≡ w first front ++ (w start block ++ w (end_of file_length n) (drop m rest))
   cut_parts =
       ap (w first) joined
-      ∙ edges_part complete first before (block ++ drop m rest) wanted edge_before
+      ∙ edges_part file_length first before (block ++ drop m rest) wanted edge_before
       ∙ ap (λ place. w first before ++ w place (block ++ drop m rest)) begins_at
       ∙ ap (λ bs. w first before ++ bs) behind
-      ∙ ap (λ bs. bs ++ (w start block ++ w (end_of complete n) (drop m rest))) (sym of_front)
+      ∙ ap (λ bs. bs ++ (w start block ++ w (end_of file_length n) (drop m rest))) (sym of_front)
 
 pub cuts_part : CutsPart
-cuts_part complete first front rest wanted n is = cut_parts complete first front rest wanted n is
+cuts_part file_length first front rest wanted n is = cut_parts file_length first front rest wanted n is
 
 -- ---- a block that isn't wanted
 
@@ -305,20 +305,20 @@ there_by true true is t = refl
 there_by true false is t = absurd (let wrong : true ≡ false = is in cc)
 there_by false there is t = absurd (let wrong : false ≡ true = t in cc)
 
-unwanted_there : (c : Blocks) (complete : ℕ) (bytes : List ℕ) (wanted : Span) (n : ℕ) → is_wanted c complete wanted n ≡ false →
-    n * 16384 + length bytes ≤ end_of complete n →
-    All (λ b. has b.0 (numbers c.entries) ≡ true) (whole_blocks complete (n * 16384) bytes wanted)
+unwanted_there : (c : Blocks) (file_length : ℕ) (bytes : List ℕ) (wanted : Span) (n : ℕ) → is_wanted c file_length wanted n ≡ false →
+    n * 16384 + length bytes ≤ end_of file_length n →
+    All (λ b. has b.0 (numbers c.entries) ≡ true) (whole_blocks file_length (n * 16384) bytes wanted)
 unfolding whole_blocks is_wanted
-unwanted_there c complete bytes wanted n other within =
-    all_brought (λ b. has b.0 (numbers c.entries) ≡ true) complete (n * 16384) bytes wanted
+unwanted_there c file_length bytes wanted n other within =
+    all_brought (λ b. has b.0 (numbers c.entries) ≡ true) file_length (n * 16384) bytes wanted
     (λ k t.
     let parts = and_parts _ _ t in
-    let lies = lies_in complete (n * 16384) (n * 16384 + length bytes) k parts.0 in
+    let lies = lies_in file_length (n * 16384) (n * 16384 + length bytes) k parts.0 in
     let same : k ≡ n = omega (arith, within, lies.there, lies.begins, lies.ends) in
-    there_by (is_whole complete wanted.first (wanted.last + 1) k) (has k (numbers c.entries))
-    (ap (λ j. is_whole complete wanted.first (wanted.last + 1) j && not (has j (numbers c.entries))) same ∙ other) parts.1)
-    (range_with_len 0 (block_count complete))
+    there_by (is_whole file_length wanted.first (wanted.last + 1) k) (has k (numbers c.entries))
+    (ap (λ j. is_whole file_length wanted.first (wanted.last + 1) j && not (has j (numbers c.entries))) same ∙ other) parts.1)
+    (range_with_len 0 (block_count file_length))
 
 pub unwanted_stay : UnwantedStay
-unwanted_stay c complete bytes wanted n other within =
-    stored_there c.capacity (whole_blocks complete (n * 16384) bytes wanted) c.entries (unwanted_there c complete bytes wanted n other within)
+unwanted_stay c file_length bytes wanted n other within =
+    stored_there c.capacity (whole_blocks file_length (n * 16384) bytes wanted) c.entries (unwanted_there c file_length bytes wanted n other within)

@@ -16,35 +16,35 @@ stored-push capacity [] b bs = refl
 stored-push capacity (n ∷ new) b bs = stored-push capacity new b (put_one capacity bs n)
 
 -- one block of the piece more
-pub stored-more : (capacity complete first : ℕ) (bytes : List ℕ) (from n : ℕ) (bs : List Block) → from ≤ n →
-    stored capacity (map (block_in complete first bytes) (range_with_len from (n + 1 - from))) bs
-    ≡ put_one capacity (stored capacity (map (block_in complete first bytes) (range_with_len from (n - from))) bs) (block_in complete first bytes n)
-stored-more capacity complete first bytes from n bs low =
+pub stored-more : (capacity file_length first : ℕ) (bytes : List ℕ) (from n : ℕ) (bs : List Block) → from ≤ n →
+    stored capacity (map (block_in file_length first bytes) (range_with_len from (n + 1 - from))) bs
+    ≡ put_one capacity (stored capacity (map (block_in file_length first bytes) (range_with_len from (n - from))) bs) (block_in file_length first bytes n)
+stored-more capacity file_length first bytes from n bs low =
     let count : n + 1 - from ≡ n - from + 1 = omega arith in
     let place : from + (n - from) ≡ n = omega arith in
-    ap (λ k. stored capacity (map (block_in complete first bytes) (range_with_len from k)) bs) count
-    ∙ ap (λ new. stored capacity new bs) (map-range_with_len_more (block_in complete first bytes) from (n - from) n place)
-    ∙ stored-push capacity (map (block_in complete first bytes) (range_with_len from (n - from))) (block_in complete first bytes n) bs
+    ap (λ k. stored capacity (map (block_in file_length first bytes) (range_with_len from k)) bs) count
+    ∙ ap (λ new. stored capacity new bs) (map-range_with_len_more (block_in file_length first bytes) from (n - from) n place)
+    ∙ stored-push capacity (map (block_in file_length first bytes) (range_with_len from (n - from))) (block_in file_length first bytes n) bs
 
-pub stored-none : (capacity complete first : ℕ) (bytes : List ℕ) (from : ℕ) (bs : List Block) →
-    stored capacity (map (block_in complete first bytes) (range_with_len from (from - from))) bs ≡ bs
+pub stored-none : (capacity file_length first : ℕ) (bytes : List ℕ) (from : ℕ) (bs : List Block) →
+    stored capacity (map (block_in file_length first bytes) (range_with_len from (from - from))) bs ≡ bs
 unfolding stored
-stored-none capacity complete first bytes from bs =
-    let none : from - from ≡ 0 = omega arith in ap (λ k. stored capacity (map (block_in complete first bytes) (range_with_len from k)) bs) none
+stored-none capacity file_length first bytes from bs =
+    let none : from - from ≡ 0 = omega arith in ap (λ k. stored capacity (map (block_in file_length first bytes) (range_with_len from k)) bs) none
 
-pub stores-next : (capacity complete first : ℕ) (bytes : List ℕ) (n to : ℕ) (bs : List Block) → n < to →
-    stores capacity (map (block_in complete first bytes) (range_with_len n (to - n))) bs
-    ≡ cond (has n (numbers bs)) 0 1 + stores capacity (map (block_in complete first bytes) (range_with_len (n + 1) (to - (n + 1)))) (put_one capacity bs (block_in complete first bytes n))
+pub stores-next : (capacity file_length first : ℕ) (bytes : List ℕ) (n to : ℕ) (bs : List Block) → n < to →
+    stores capacity (map (block_in file_length first bytes) (range_with_len n (to - n))) bs
+    ≡ cond (has n (numbers bs)) 0 1 + stores capacity (map (block_in file_length first bytes) (range_with_len (n + 1) (to - (n + 1)))) (put_one capacity bs (block_in file_length first bytes n))
 unfolding stores
-stores-next capacity complete first bytes n to bs below =
+stores-next capacity file_length first bytes n to bs below =
     let count : to - n ≡ suc (to - (n + 1)) = omega arith in
-    ap (λ k. stores capacity (map (block_in complete first bytes) (range_with_len n k)) bs) count
+    ap (λ k. stores capacity (map (block_in file_length first bytes) (range_with_len n k)) bs) count
 
-pub stores-none : (capacity complete first : ℕ) (bytes : List ℕ) (n to : ℕ) (bs : List Block) → to ≤ n →
-    stores capacity (map (block_in complete first bytes) (range_with_len n (to - n))) bs ≡ 0
+pub stores-none : (capacity file_length first : ℕ) (bytes : List ℕ) (n to : ℕ) (bs : List Block) → to ≤ n →
+    stores capacity (map (block_in file_length first bytes) (range_with_len n (to - n))) bs ≡ 0
 unfolding stores
-stores-none capacity complete first bytes n to bs past =
-    let none : to - n ≡ 0 = omega arith in ap (λ k. stores capacity (map (block_in complete first bytes) (range_with_len n k)) bs) none
+stores-none capacity file_length first bytes n to bs past =
+    let none : to - n ≡ 0 = omega arith in ap (λ k. stores capacity (map (block_in file_length first bytes) (range_with_len n k)) bs) none
 
 -- a block that isn't stored is there
 pub there_of_none : (t : Bool) → cond t 0 1 ≤ 0 → t ≡ true

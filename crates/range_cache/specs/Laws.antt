@@ -1,8 +1,8 @@
 -- Laws of these definitions, for the crates above.
 use Rattle.std.specs.Prelude.{◌≡◌, ◌⊎◌, ℕ, ◌+◌, ◌-◌, ◌*◌, ◌<◌, ◌≤◌, true, false, List, [], ◌++◌, length, take, drop, min, max, is_some}
-use Rattle.tiff_dir.specs.declared.span.Span.{Span}
-use Rattle.tiff_dir.specs.declared.limits.TheConstants.{BLOCK_SIZE}
-use Rattle.tiff_dir.specs.Block.{end_of}
+use Rattle.extents.specs.declared.span.Span.{Span}
+use Rattle.extents.specs.declared.limits.TheConstants.{BLOCK_SIZE}
+use Rattle.extents.specs.Block.{end_of}
 use Rattle.range_cache.specs.Numbers.{has, missing, AreGone, AreKept, IsGap, IsLed, Stays}
 use Rattle.range_cache.specs.Cache.{Block, Blocks, block_at, numbers, stored, stores, Holds}
 use Rattle.range_cache.specs.Piece.{is_brought, is_wanted, whole_blocks, IsPieceOf}
@@ -57,89 +57,89 @@ StoresAreSome = (capacity : ℕ) (new bs : List Block) (n : ℕ) →
 -- where nothing that a piece brings is there, and has room beside those of a range that are there and lead, no block of the range
 -- leaves, and all that the piece brings is there
 abbrev pub StoredStay : Type 0
-StoredStay = (c : Blocks) (complete first : ℕ) (bytes : List ℕ) (wanted : Span) (n count : ℕ) →
-    let new = whole_blocks complete first bytes wanted in
+StoredStay = (c : Blocks) (file_length first : ℕ) (bytes : List ℕ) (wanted : Span) (n count : ℕ) →
+    let new = whole_blocks file_length first bytes wanted in
     AreGone (numbers c.entries) (numbers new) → count - missing (numbers c.entries) n count + length new ≤ c.capacity →
     IsLed (numbers c.entries) n count →
     Stays (numbers c.entries) (numbers (stored c.capacity new c.entries)) n count (numbers new)
 
 -- which blocks a piece brings
 abbrev pub WholeAreBrought : Type 0
-WholeAreBrought = (complete first : ℕ) (bytes : List ℕ) (wanted : Span) (n : ℕ) →
-    is_brought complete first (length bytes) wanted n ≡ true → has n (numbers (whole_blocks complete first bytes wanted)) ≡ true
+WholeAreBrought = (file_length first : ℕ) (bytes : List ℕ) (wanted : Span) (n : ℕ) →
+    is_brought file_length first (length bytes) wanted n ≡ true → has n (numbers (whole_blocks file_length first bytes wanted)) ≡ true
 
 -- and it brings no others
 abbrev pub OnlyWholeAreBrought : Type 0
-OnlyWholeAreBrought = (complete first : ℕ) (bytes : List ℕ) (wanted : Span) (n : ℕ) →
-    has n (numbers (whole_blocks complete first bytes wanted)) ≡ true → is_brought complete first (length bytes) wanted n ≡ true
+OnlyWholeAreBrought = (file_length first : ℕ) (bytes : List ℕ) (wanted : Span) (n : ℕ) →
+    has n (numbers (whole_blocks file_length first bytes wanted)) ≡ true → is_brought file_length first (length bytes) wanted n ≡ true
 
 -- what is wanted is no longer than n blocks: a piece brings n at most
 abbrev pub WholeAreFew : Type 0
-WholeAreFew = (complete first : ℕ) (bytes : List ℕ) (wanted : Span) (n : ℕ) →
-    wanted.last < wanted.first + n * BLOCK_SIZE → length (whole_blocks complete first bytes wanted) ≤ n
+WholeAreFew = (file_length first : ℕ) (bytes : List ℕ) (wanted : Span) (n : ℕ) →
+    wanted.last < wanted.first + n * BLOCK_SIZE → length (whole_blocks file_length first bytes wanted) ≤ n
 
 -- a piece of a file brings blocks of that file: blocks of it stay so where they are stored
 abbrev pub StoredHolds : Type 0
-StoredHolds = (f : List ℕ) (c : Blocks) (complete first : ℕ) (bytes : List ℕ) (wanted : Span) →
-    complete ≡ length f → IsPieceOf f first bytes → Holds f c →
-    Holds f (record c { entries = stored c.capacity (whole_blocks complete first bytes wanted) c.entries })
+StoredHolds = (f : List ℕ) (c : Blocks) (file_length first : ℕ) (bytes : List ℕ) (wanted : Span) →
+    file_length ≡ length f → IsPieceOf f first bytes → Holds f c →
+    Holds f (record c { entries = stored c.capacity (whole_blocks file_length first bytes wanted) c.entries })
 
 -- the same where only the first k of them are stored
 abbrev pub FrontHolds : Type 0
-FrontHolds = (f : List ℕ) (c : Blocks) (complete first : ℕ) (bytes : List ℕ) (wanted : Span) (k : ℕ) →
-    complete ≡ length f → IsPieceOf f first bytes → Holds f c →
-    Holds f (record c { entries = stored c.capacity (take k (whole_blocks complete first bytes wanted)) c.entries })
+FrontHolds = (f : List ℕ) (c : Blocks) (file_length first : ℕ) (bytes : List ℕ) (wanted : Span) (k : ℕ) →
+    file_length ≡ length f → IsPieceOf f first bytes → Holds f c →
+    Holds f (record c { entries = stored c.capacity (take k (whole_blocks file_length first bytes wanted)) c.entries })
 
 -- ---- a piece that comes in parts
 
 -- no block is cut here: one begins, or the file ends
 abbrev pub IsEdge : ℕ → ℕ → Type 0
-IsEdge complete at = (at ≡ complete) ⊎ ((n : ℕ) × (at ≡ n * BLOCK_SIZE))
+IsEdge file_length at = (at ≡ file_length) ⊎ ((n : ℕ) × (at ≡ n * BLOCK_SIZE))
 
 -- a piece that is cut at such a place brings the blocks of the first part, and then those of the second
 abbrev pub EdgesPart : Type 0
-EdgesPart = (complete first : ℕ) (front rest : List ℕ) (wanted : Span) → IsEdge complete (first + length front) →
-    whole_blocks complete first (front ++ rest) wanted
-    ≡ whole_blocks complete first front wanted ++ whole_blocks complete (first + length front) rest wanted
+EdgesPart = (file_length first : ℕ) (front rest : List ℕ) (wanted : Span) → IsEdge file_length (first + length front) →
+    whole_blocks file_length first (front ++ rest) wanted
+    ≡ whole_blocks file_length first front wanted ++ whole_blocks file_length (first + length front) rest wanted
 
 -- The places from first up to end lie in block n, and are not all of it.
-pub record IsPartOf (complete first end n : ℕ) : Type 0 where
+pub record IsPartOf (file_length first end n : ℕ) : Type 0 where
   pub begins : n * BLOCK_SIZE ≤ first
-  pub ends : end ≤ end_of complete n
-  pub lacks : (n * BLOCK_SIZE < first) ⊎ (end < end_of complete n)
+  pub ends : end ≤ end_of file_length n
+  pub lacks : (n * BLOCK_SIZE < first) ⊎ (end < end_of file_length n)
 
 -- a part of a block brings none
 abbrev pub PartsBringNone : Type 0
-PartsBringNone = (complete first : ℕ) (bytes : List ℕ) (wanted : Span) (n : ℕ) →
-    IsPartOf complete first (first + length bytes) n → whole_blocks complete first bytes wanted ≡ []
+PartsBringNone = (file_length first : ℕ) (bytes : List ℕ) (wanted : Span) (n : ℕ) →
+    IsPartOf file_length first (first + length bytes) n → whole_blocks file_length first bytes wanted ≡ []
 
 -- a piece that has no byte of what is wanted brings none
 abbrev pub BesideBringNone : Type 0
-BesideBringNone = (complete first : ℕ) (bytes : List ℕ) (wanted : Span) →
-    min (first + length bytes) (wanted.last + 1) ≤ max first wanted.first → whole_blocks complete first bytes wanted ≡ []
+BesideBringNone = (file_length first : ℕ) (bytes : List ℕ) (wanted : Span) →
+    min (first + length bytes) (wanted.last + 1) ≤ max first wanted.first → whole_blocks file_length first bytes wanted ≡ []
 
 -- A piece is cut inside block n, which begins in the front and ends in the rest.
-pub record IsCutIn (complete first : ℕ) (front rest : List ℕ) (n : ℕ) : Type 0 where
+pub record IsCutIn (file_length first : ℕ) (front rest : List ℕ) (n : ℕ) : Type 0 where
   pub begins : first ≤ n * BLOCK_SIZE
   pub reached : n * BLOCK_SIZE ≤ first + length front
-  pub cut : first + length front < end_of complete n
-  pub ends : end_of complete n ≤ first + length front + length rest
+  pub cut : first + length front < end_of file_length n
+  pub ends : end_of file_length n ≤ first + length front + length rest
 
 -- the part of block n in the front, and how many bytes of it stand in the rest
 abbrev pub begun : ℕ → List ℕ → ℕ → List ℕ
 begun first front n = drop (n * BLOCK_SIZE - first) front
 
 abbrev pub lacking : ℕ → ℕ → List ℕ → ℕ → ℕ
-lacking complete first front n = end_of complete n - (first + length front)
+lacking file_length first front n = end_of file_length n - (first + length front)
 
 -- such a piece brings the blocks of the front, the one that the cut goes through, and those of what follows that
 abbrev pub CutsPart : Type 0
-CutsPart = (complete first : ℕ) (front rest : List ℕ) (wanted : Span) (n : ℕ) → IsCutIn complete first front rest n →
-    let m = lacking complete first front n in
-    whole_blocks complete first (front ++ rest) wanted
-    ≡ whole_blocks complete first front wanted
-    ++ (whole_blocks complete (n * BLOCK_SIZE) (begun first front n ++ take m rest) wanted
-    ++ whole_blocks complete (end_of complete n) (drop m rest) wanted)
+CutsPart = (file_length first : ℕ) (front rest : List ℕ) (wanted : Span) (n : ℕ) → IsCutIn file_length first front rest n →
+    let m = lacking file_length first front n in
+    whole_blocks file_length first (front ++ rest) wanted
+    ≡ whole_blocks file_length first front wanted
+    ++ (whole_blocks file_length (n * BLOCK_SIZE) (begun first front n ++ take m rest) wanted
+    ++ whole_blocks file_length (end_of file_length n) (drop m rest) wanted)
 
 -- blocks of two lists are stored one list after the other, and counted so
 abbrev pub StoredJoin : Type 0
@@ -152,7 +152,7 @@ StoresJoin = (capacity : ℕ) (new later bs : List Block) →
 
 -- bytes of a block that isn't wanted change nothing
 abbrev pub UnwantedStay : Type 0
-UnwantedStay = (c : Blocks) (complete : ℕ) (bytes : List ℕ) (wanted : Span) (n : ℕ) →
-    is_wanted c complete wanted n ≡ false → n * BLOCK_SIZE + length bytes ≤ end_of complete n →
-    let new = whole_blocks complete (n * BLOCK_SIZE) bytes wanted in
+UnwantedStay = (c : Blocks) (file_length : ℕ) (bytes : List ℕ) (wanted : Span) (n : ℕ) →
+    is_wanted c file_length wanted n ≡ false → n * BLOCK_SIZE + length bytes ≤ end_of file_length n →
+    let new = whole_blocks file_length (n * BLOCK_SIZE) bytes wanted in
     (stored c.capacity new c.entries ≡ c.entries) × (stores c.capacity new c.entries ≡ 0)

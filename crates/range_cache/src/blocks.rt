@@ -1,22 +1,21 @@
 //! Work on the blocks of a cache, by their numbers.
 ghost use Rattle.std.specs.Prelude.{◌≡◌, true, false, ℕ, ◌+◌, ◌-◌, ◌*◌, ◌/◌, ◌%◌, ◌<◌, ◌≤◌, ◌^◌, ◌==◌, EachIndex, IfOk, IsOk, OnErr, MatchOption, length, map, slice_index, if◌then◌else◌};
 ghost use Rattle.std.specs.List.{IsDistinct, filter, range_with_len};
-ghost use Rattle.tiff_dir.specs.declared.limits.TheConstants.{BLOCK_SIZE};
-ghost use Rattle.tiff_dir.specs.Block.{block_count, end_of};
+ghost use Rattle.extents.specs.declared.limits.TheConstants.{BLOCK_SIZE};
+ghost use Rattle.extents.specs.Block.{block_count, end_of};
 ghost use Rattle.range_cache.specs.Numbers.{has, missing, AreThere, IsRunEnd};
 ghost use Rattle.range_cache.specs.Cache.{block_at, blocks_in, byte_at, left_in, numbers, brought, put_one, stored, stores};
 ghost use Rattle.range_cache.specs.Piece.{block_in, is_brought};
 
+use extents::{BLOCK_SIZE, Memory, Span};
 use lru::LruCache;
-use tiff_dir::limits::BLOCK_SIZE;
-use tiff_dir::{Memory, Span};
 
 /// The last place of a block of a file of this length.
-pub fn last_of(number: u64, complete: u64) -> u64
-    requires { number * BLOCK_SIZE < complete }
-    ensures { result + 1 ≡ end_of complete number }
+pub fn last_of(number: u64, file_length: u64) -> u64
+    requires { number * BLOCK_SIZE < file_length }
+    ensures { result + 1 ≡ end_of file_length number }
 {
-    (number * BLOCK_SIZE + (BLOCK_SIZE - 1)).min(complete - 1)
+    (number * BLOCK_SIZE + (BLOCK_SIZE - 1)).min(file_length - 1)
 }
 
 /// Where the run of missing blocks ends that goes on here.
@@ -149,20 +148,20 @@ fn store_one(blocks: &mut LruCache<u64, Vec<u8>>, number: u64, bytes: &[u8]) -> 
 }
 
 /// Which blocks a piece of so many bytes brings: those from the first number up to the second.
-pub fn whole_run(complete: u64, first: u64, len: u64, wanted: Span) -> (u64, u64)
-    requires { first + len ≤ complete }
-    ensures run { filter (is_brought complete first len wanted) (range_with_len 0 (block_count complete))
+pub fn whole_run(file_length: u64, first: u64, len: u64, wanted: Span) -> (u64, u64)
+    requires { first + len ≤ file_length }
+    ensures run { filter (is_brought file_length first len wanted) (range_with_len 0 (block_count file_length))
         ≡ range_with_len result.0 (result.1 - result.0) }
     ensures starts { first ≤ result.0 * BLOCK_SIZE }
-    ensures inside { result.1 * BLOCK_SIZE < complete + BLOCK_SIZE }
-    ensures ends { result.0 < result.1 → end_of complete (result.1 - 1) ≤ first + len }
+    ensures inside { result.1 * BLOCK_SIZE < file_length + BLOCK_SIZE }
+    ensures ends { result.0 < result.1 → end_of file_length (result.1 - 1) ≤ first + len }
 {
     let end = (first + len).min(wanted.last.saturating_add(1));
     let from = first.max(wanted.first).div_ceil(BLOCK_SIZE);
-    let to = if end < complete {
+    let to = if end < file_length {
         end / BLOCK_SIZE
     } else {
-        complete.div_ceil(BLOCK_SIZE)
+        file_length.div_ceil(BLOCK_SIZE)
     };
     (from, to)
 }
@@ -170,31 +169,31 @@ pub fn whole_run(complete: u64, first: u64, len: u64, wanted: Span) -> (u64, u64
 /// Stores those of the blocks that aren't there, from the bytes of a piece, and says how many.
 pub fn store(
     blocks: &mut LruCache<u64, Vec<u8>>,
-    complete: u64,
+    file_length: u64,
     first: u64,
     bytes: &[u8],
     from: u64,
     to: u64,
 ) -> Result<u32, Memory>
     requires starts { first ≤ from * BLOCK_SIZE }
-    requires inside { to * BLOCK_SIZE < complete + BLOCK_SIZE }
-    requires ends { from < to → end_of complete (to - 1) ≤ first + length bytes.now }
-    requires counted { stores blocks.old.cap (map (block_in complete first bytes.now) (range_with_len from (to - from)))
+    requires inside { to * BLOCK_SIZE < file_length + BLOCK_SIZE }
+    requires ends { from < to → end_of file_length (to - 1) ≤ first + length bytes.now }
+    requires counted { stores blocks.old.cap (map (block_in file_length first bytes.now) (range_with_len from (to - from)))
         (blocks_in blocks.old.entries) < 2 ^ 32 }
     ensures capacity { blocks.new.cap ≡ blocks.old.cap }
-    ensures ok { IfOk result (λ count. let new = map (block_in complete first bytes.now) (range_with_len from (to - from)) in
+    ensures ok { IfOk result (λ count. let new = map (block_in file_length first bytes.now) (range_with_len from (to - from)) in
         (blocks_in blocks.new.entries ≡ stored blocks.old.cap new (blocks_in blocks.old.entries))
         × (count ≡ stores blocks.old.cap new (blocks_in blocks.old.entries))) }
     ensures err { OnErr result ((k : ℕ) × (k < to - from)
-        × (blocks_in blocks.new.entries ≡ stored blocks.old.cap (map (block_in complete first bytes.now) (range_with_len from k))
+        × (blocks_in blocks.new.entries ≡ stored blocks.old.cap (map (block_in file_length first bytes.now) (range_with_len from k))
         (blocks_in blocks.old.entries))) }
-    ensures sure { stores blocks.old.cap (map (block_in complete first bytes.now) (range_with_len from (to - from)))
+    ensures sure { stores blocks.old.cap (map (block_in file_length first bytes.now) (range_with_len from (to - from)))
         (blocks_in blocks.old.entries) ≡ 0 → IsOk result }
 {
     let mut count = 0;
     for number in from..to {
         let start = number * BLOCK_SIZE - first;
-        let end = last_of(number, complete) + 1 - first;
+        let end = last_of(number, file_length) + 1 - first;
         count += store_one(blocks, number, &bytes[start as usize..end as usize])?;
     }
     Ok(count)

@@ -1,8 +1,8 @@
 //! The cache and its calls.
 ghost use Rattle.std.specs.Prelude.{◌≡◌, ◌+◌, ◌-◌, ◌*◌, ◌/◌, ◌%◌, ◌<◌, ◌≤◌, ◌^◌, ℕ, List, [], IfOk, IsOk, OnOk, OnErr, IsErrOf, MatchResult, length, take};
 ghost use Rattle.std.specs.List.{range_with_len, slice_range};
-ghost use Rattle.tiff_dir.specs.declared.limits.TheConstants.{BLOCK_SIZE};
-ghost use Rattle.tiff_dir.specs.Block.{first_block, blocks};
+ghost use Rattle.extents.specs.declared.limits.TheConstants.{BLOCK_SIZE};
+ghost use Rattle.extents.specs.Block.{first_block, blocks};
 ghost use Rattle.range_cache.specs.Numbers.{has, missing, AreGone, AreThere, IsLed, IsRunEnd, Stays};
 ghost use Rattle.range_cache.specs.declared.cache.TheConstants.{MAX_CAPACITY, MIN_CAPACITY};
 ghost use Rattle.range_cache.specs.Cache.{Blocks, block_at, bytes_at, left_in, numbers, Holds, IsSound, brought, stored, stores};
@@ -11,12 +11,11 @@ ghost use Rattle.range_cache.specs.Missing.{IsFirstGap};
 
 use crate::blocks::{bring, copy, count_present, end_of_run, last_of, piece, store, whole_run};
 use crate::missing::Missing;
+use extents::{BLOCK_SIZE, Memory, Span};
 use lru::LruCache;
 use std::alloc::Global;
 use std::marker::Model;
 use std::num::NonZeroUsize;
-use tiff_dir::limits::BLOCK_SIZE;
-use tiff_dir::{Memory, Span};
 
 /// The fewest blocks of a cache: those of a range of 1,048,576 bytes, wherever it begins, and one more.
 pub const MIN_CAPACITY: u32 = 66;
@@ -84,17 +83,17 @@ impl Cache {
     /// Says whether all the blocks of a range of so many bytes from `first` on are there, and else the first unbroken run of those that
     /// are missing. In both cases those that are there come to the front, in ascending order.
     ///
-    /// `complete` is the length of the file, and the range lies in it.
-    pub fn touch(&mut self, complete: u64, first: u64, len: usize) -> Result<(), Missing>
+    /// `file_length` is the length of the file, and the range lies in it.
+    pub fn touch(&mut self, file_length: u64, first: u64, len: usize) -> Result<(), Missing>
         requires some { 0 < len }
-        requires within { first + len ≤ complete }
+        requires within { first + len ≤ file_length }
         ensures sound { IsSound self.old }
         ensures entries { self.new ≡ record self.old {
           entries = brought (range_with_len (first_block first) (blocks first len)) self.old.entries;
         } }
         ensures exact { MatchResult result
             (λ _. AreThere (numbers self.old.entries) (first_block first) (blocks first len))
-            (λ m. IsFirstGap self.old complete first len m) }
+            (λ m. IsFirstGap self.old file_length first len m) }
         ensures bytes { OnOk result ((f : List ℕ) → first + len ≤ length f → Holds f self.old →
             bytes_at self.new first len ≡ slice_range f first (first + len)) }
 
@@ -113,7 +112,7 @@ impl Cache {
                 let end = end_of_run(&self.blocks, start + 1, to);
                 Err(Missing {
                     first: start * BLOCK_SIZE,
-                    last: last_of(end - 1, complete),
+                    last: last_of(end - 1, file_length),
                 })
             }
         }
@@ -144,39 +143,39 @@ impl Cache {
     /// ascending order, and says how many; where the cache is full the least recently used one leaves for each. After a refusal
     /// (Memory) a beginning of them is stored. A piece that brings no block that isn't there is never refused.
     ///
-    /// `complete` is the length of the file, and the piece, which begins at `first`, lies in it and may be empty.
+    /// `file_length` is the length of the file, and the piece, which begins at `first`, lies in it and may be empty.
     pub fn put(
         &mut self,
-        complete: u64,
+        file_length: u64,
         first: u64,
         bytes: &[u8],
         wanted: Span,
     ) -> Result<u32, Memory>
-        requires within { first + length bytes.now ≤ complete }
+        requires within { first + length bytes.now ≤ file_length }
 
         // Their number fits.
-        requires counted { stores self.old.capacity (whole_blocks complete first bytes.now wanted) self.old.entries < 2 ^ 32 }
+        requires counted { stores self.old.capacity (whole_blocks file_length first bytes.now wanted) self.old.entries < 2 ^ 32 }
         ensures sound { IsSound self.old }
-        ensures ok { IfOk result (λ count. let new = whole_blocks complete first bytes.now wanted in
+        ensures ok { IfOk result (λ count. let new = whole_blocks file_length first bytes.now wanted in
             (self.new ≡ record self.old { entries = stored self.old.capacity new self.old.entries })
             × (count ≡ stores self.old.capacity new self.old.entries)) }
-        ensures err { OnErr result (let new = whole_blocks complete first bytes.now wanted in
+        ensures err { OnErr result (let new = whole_blocks file_length first bytes.now wanted in
             (k : ℕ) × (k < length new)
             × (self.new ≡ record self.old { entries = stored self.old.capacity (take k new) self.old.entries })) }
-        ensures sure { stores self.old.capacity (whole_blocks complete first bytes.now wanted) self.old.entries ≡ 0 → IsOk result }
+        ensures sure { stores self.old.capacity (whole_blocks file_length first bytes.now wanted) self.old.entries ≡ 0 → IsOk result }
 
         // What follows of the entries: each is still the file's; and where none of the blocks is there, and they have room
         // beside those of a range that are there and lead, no block of the range leaves, and they are there.
-        ensures holds { (f : List ℕ) → complete ≡ length f → IsPieceOf f first bytes.now → Holds f self.old → Holds f self.new }
-        ensures stays { let new = whole_blocks complete first bytes.now wanted in let there = numbers self.old.entries in
+        ensures holds { (f : List ℕ) → file_length ≡ length f → IsPieceOf f first bytes.now → Holds f self.old → Holds f self.new }
+        ensures stays { let new = whole_blocks file_length first bytes.now wanted in let there = numbers self.old.entries in
             (n count : ℕ) → AreGone there (numbers new) → count - missing there n count + length new ≤ self.old.capacity →
             IsLed there n count →
             MatchResult result (λ _. Stays there (numbers self.new.entries) n count (numbers new))
             (λ _. Stays there (numbers self.new.entries) n count []) }
     {
         self.law();
-        let (from, to) = whole_run(complete, first, bytes.len() as u64, wanted);
-        store(&mut self.blocks, complete, first, bytes, from, to)
+        let (from, to) = whole_run(file_length, first, bytes.len() as u64, wanted);
+        store(&mut self.blocks, file_length, first, bytes, from, to)
     }
 
     // It does nothing: its contract is a law of the blocks that are kept.
@@ -198,14 +197,14 @@ impl Cache {
 
     /// Whether a block lies wholly in what is wanted and isn't there.
     ///
-    /// `complete` is the length of the file. A block at its end is no block.
-    pub fn wants(&self, complete: u64, wanted: Span, block: u64) -> bool
-        ensures { result ≡ is_wanted self.now complete wanted block }
+    /// `file_length` is the length of the file. A block at its end is no block.
+    pub fn wants(&self, file_length: u64, wanted: Span, block: u64) -> bool
+        ensures { result ≡ is_wanted self.now file_length wanted block }
     {
-        if block >= complete.div_ceil(BLOCK_SIZE) || block * BLOCK_SIZE < wanted.first {
+        if block >= file_length.div_ceil(BLOCK_SIZE) || block * BLOCK_SIZE < wanted.first {
             return false;
         }
-        last_of(block, complete) <= wanted.last && !self.blocks.contains(&block)
+        last_of(block, file_length) <= wanted.last && !self.blocks.contains(&block)
     }
 
     /// How many of the blocks from one number up to another are there.

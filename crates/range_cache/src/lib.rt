@@ -8,7 +8,7 @@ mod missing;
 
 pub use cache::{Cache, CacheError, MAX_CAPACITY, MIN_CAPACITY};
 pub use laws::{
-    capacities_are, missing_is_exact, parts_bring_blocks, pieces_bring_blocks, stored_are_held,
-    stored_stay, stores_are_counted,
+    law_capacities_are, law_missing_is_exact, law_parts_bring_blocks, law_pieces_bring_blocks,
+    law_stored_are_held, law_stored_stay, law_stores_are_counted,
 };
 pub use missing::Missing;

@@ -4,7 +4,7 @@ use Rattle.std.specs.List.{filter, sum_by}
 use Rattle.std.specs.Option.{option_to_list}
 use Rattle.std.proofs.lemmas.List.{drop_all, drop_more}
 use Rattle.std.proofs.lemmas.List.Sums.{sum_by-cons}
-use Rattle.tiff_dir.specs.Needs.{Extent, ends_past}
+use Rattle.extents.specs.Extent.{Extent, ends_past}
 use Rattle.std.specs.Prelude.{MatchOption, IfSome, IfNone, OnOk}
 use Rattle.tiff_dir.specs.declared.query.Query.{Query}
 use Rattle.tiff_dir.specs.Query.{joined_after, blocks_of_extent, needs, cost}

@@ -2,7 +2,9 @@
 use Rattle.std.proofs.Common.{◌≡◌, ℕ, Bool, true, false, List, length, Option, Some, None, IfSome, IfNone, IsSomeAnd, MatchOption, if◌then◌else◌, refl, sym, ap, subst, ◌∙◌}
 use Rattle.tiff_dir.specs.declared.order.Order.{Order}
 use Rattle.tiff_dir.specs.declared.level.Compression.{Compression}
-use Rattle.tiff_dir.specs.declared.level.Compression.TheVariants.{Plain, PackBits}
+use Rattle.tiff_dir.specs.declared.level.Compression.TheVariants.{Plain, Packed}
+use Rattle.tiff_dir.specs.declared.level.Codec.{Codec}
+use Rattle.tiff_dir.specs.declared.level.Codec.TheVariants.{PackBits}
 use Rattle.tiff_dir.specs.File.{◌>>=◌, order_of}
 use Rattle.tiff_dir.specs.Level.{Layout, level_layout, plain_row, plain_size}
 use Rattle.tiff_dir.specs.Query.{segment}
@@ -18,15 +20,15 @@ abbrev pub IsPackedOnce : Type 0
 IsPackedOnce = (row : ℕ) (bytes out other : List ℕ) → Packs row bytes out → Packs row bytes other → out ≡ other
 
 -- a packed segment is no tile where no text of the tile's size is packed in it
-pub no_tile : (l : Layout) (bytes : List ℕ) → l.compression ≡ PackBits
+pub no_tile : (l : Layout) (bytes : List ℕ) (codec : Codec) → l.compression ≡ Packed codec
     → ((plain : List ℕ) → length plain ≡ plain_size l → Packs (plain_row l) bytes plain → ⊥) → IsNotUnpacked l bytes
-no_tile l bytes packed none plain unpacked =
+no_tile l bytes PackBits packed none plain unpacked =
     let parts = subst (λ k. IsUnpackedBy k (plain_row l) (plain_size l) bytes plain) packed unpacked in
     none plain parts.0 parts.1
 
 unpacked_by_once : (once : IsPackedOnce) (k : Compression) (row size : ℕ) (bytes out other : List ℕ) → IsUnpackedBy k row size bytes out → IsUnpackedBy k row size bytes other → out ≡ other
 unpacked_by_once once Plain row size bytes out other one two = one ∙ sym two
-unpacked_by_once once PackBits row size bytes out other one two = once row bytes out other one.1 two.1
+unpacked_by_once once (Packed PackBits) row size bytes out other one two = once row bytes out other one.1 two.1
 
 when_same : (b : Bool) (l m : Layout) → (if b then Some m else None) ≡ Some l → m ≡ l
 when_same true l m e = cc

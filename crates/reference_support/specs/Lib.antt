@@ -6,3 +6,4 @@ pub mod Unpacking
 pub mod Missing
 pub mod Tile
 pub mod Info
+pub mod Walked

@@ -8,12 +8,13 @@ ghost use Rattle.reference_support.specs.Modest.{grid_of, is_modest, is_modest_g
 use crate::directories::has_directory;
 use crate::fields::{place, value};
 use std::alloc::{AllocError, Global};
+use tiff_dir::field_values::{COMPRESSION_NONE, COMPRESSION_PACKBITS};
 use tiff_dir::limits::MAX_DIRECTORIES;
 use tiff_dir::tags::{
     BITS_PER_SAMPLE, COMPRESSION, IMAGE_LENGTH, IMAGE_WIDTH, NEW_SUBFILE_TYPE, SAMPLES_PER_PIXEL,
     TILE_BYTE_COUNTS, TILE_LENGTH, TILE_OFFSETS, TILE_WIDTH,
 };
-use tiff_dir::{Compression, Place};
+use tiff_dir::{Codec, Compression, Place};
 
 /// Whether directory `k` is a level.
 #[tactic(auto, unfolding(tiff_dir::specs::Level::is_level))]
@@ -52,10 +53,10 @@ pub fn level_directory(alloc: Global, file: &[u8], n: usize) -> Result<Option<u3
 fn compression_of(number: u64) -> Option<Compression>
     ensures { result ≡ compression_of number }
 {
-    if number == 1 {
+    if number == u64::from(COMPRESSION_NONE) {
         Some(Compression::Plain)
-    } else if number == 32773 {
-        Some(Compression::PackBits)
+    } else if number == u64::from(COMPRESSION_PACKBITS) {
+        Some(Compression::Packed(Codec::PackBits))
     } else {
         None
     }

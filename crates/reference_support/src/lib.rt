@@ -1,8 +1,9 @@
-//! A plain program that reads a whole file in memory by the definitions alone. Tests compare the product with it;
-//! nothing else stands on it.
+//! A plain program that reads a whole file in memory by the definitions alone, and a walk over the directories of such a file.
+//! Tests compare the product with the plain program; nothing else stands on it.
 #![tactic(auto)]
 
 mod asked;
+mod course;
 mod directories;
 mod fields;
 mod info;
@@ -16,6 +17,7 @@ mod samples;
 mod unpacked;
 
 pub use asked::asked_rectangle;
+pub use course::{Course, Next, take_next, walk_over};
 pub use directories::{directory, entry_count, has_directory};
 pub use fields::{Entry, field, field_value, has_all_tags, place, value};
 pub use info::{level_sides, values};

@@ -4,7 +4,7 @@ ghost use Rattle.tiff_dir.specs.Packets.{Packs};
 ghost use Rattle.reference_support.specs.Unpacking.{IsNotPacked, PushesNext};
 
 use std::alloc::{AllocError, Global};
-use tiff_dir::one_text;
+use tiff_dir::law_one_text;
 
 /// Whether `count` bytes after the first `len` are in one row of `row` bytes. A row of 0 bytes has room for none.
 fn has_room(len: usize, count: usize, row: usize) -> bool
@@ -73,7 +73,7 @@ pub fn unpack(alloc: Global, bytes: &[u8], row: usize) -> Result<Option<Vec<u8>>
     ensures packed { IfOk result (λ o. IfSome o (λ out. Packs row bytes.now out.items)) }
     ensures refused { IfOk result (λ o. IfNone o (IsNotPacked row bytes.now)) }
 {
-    one_text();
+    law_one_text();
     let mut out = Vec::new(alloc);
     let mut at = 0;
     while at < bytes.len() {

@@ -4,7 +4,7 @@ ghost use Rattle.std.specs.List.{flat_map, filter, sum_by};
 ghost use Rattle.std.specs.Option.{option_map, option_to_list};
 ghost use Rattle.tiff_dir.specs.File.{directories};
 ghost use Rattle.tiff_dir.specs.Level.{level_directory};
-ghost use Rattle.tiff_dir.specs.Needs.{Extent as Range};
+ghost use Rattle.extents.specs.Extent.{Extent as Range};
 ghost use Rattle.tiff_dir.specs.Needs.{count_range, field_range, needs_of_directories, outside_range, extent_of_place, ranges_of_directory, table_range};
 ghost use Rattle.tiff_dir.specs.Geo.{geo_ranges};
 ghost use Rattle.tiff_dir.specs.Query.{array_range, array_ranges, cost, joined_after, joins, needs, tile_range, tile_ranges};
@@ -32,7 +32,7 @@ pub struct Extent {
 }
 
 impl Extent {
-    ghost use Rattle.tiff_dir.specs.Walk.{extent_of_span};
+    ghost use Rattle.extents.specs.Extent.{extent_of_span};
 
     /// The same bytes by their first and their last, where there are some and the last one's place has 64 bits.
     pub fn span(self) -> Option<Span>

@@ -10,7 +10,7 @@ use crate::numbers::number_in;
 use crate::packets::unpack;
 use crate::query::tiles_along;
 use std::alloc::{AllocError, Global};
-use tiff_dir::{Compression, Order, one_text};
+use tiff_dir::{Codec, Compression, Order, law_one_text};
 
 /// The number of the tile that has the pixel.
 pub(crate) fn tile_at(grid: &Grid, x: u32, y: u32) -> u64
@@ -76,7 +76,7 @@ pub(crate) fn plain_tile(
     ensures tile { IfOk result (λ o. IfSome o (λ plain. IsUnpacked (layout_of level.now) bytes.now plain.items)) }
     ensures none { IfOk result (λ o. IfNone o (IsNotUnpacked (layout_of level.now) bytes.now)) }
 {
-    one_text();
+    law_one_text();
     let (row, size) = row_and_size(level);
     match level.compression {
         Compression::Plain => {
@@ -84,7 +84,7 @@ pub(crate) fn plain_tile(
             plain.extend_from_slice(bytes)?;
             Ok(Some(plain))
         }
-        Compression::PackBits => match unpack(alloc, bytes, row)? {
+        Compression::Packed(Codec::PackBits) => match unpack(alloc, bytes, row)? {
             Some(plain) if plain.len() == size => Ok(Some(plain)),
             _ => Ok(None),
         },

@@ -12,7 +12,7 @@ use crate::numbers::order_of;
 use crate::query::tiles_along;
 use crate::samples::{place_in_tile, plain_tile, sample_in, tile_at};
 use std::alloc::{AllocError, Global};
-use tiff_dir::one_text;
+use tiff_dir::law_one_text;
 
 /// The unpacked bytes of tile `t` of level `n`, where it is in the file and its packets fill it.
 fn tile(
@@ -72,7 +72,7 @@ fn sample_of(
     ensures some { IfSome result (λ v. IsSample file.now n x y c v) }
     ensures none { x < level.now.grid.width → y < level.now.grid.length → IfNone result (HasNoSample file.now n x y c) }
 {
-    one_text();
+    law_one_text();
     let order = order_of(file)?;
     let plain = tiles.get(tile_at(&level.grid, x, y) as usize)?.as_ref()?;
     let place = place_in_tile(level, x, y, c);
@@ -144,7 +144,7 @@ pub fn sample(
     ensures some { IfOk result (λ o. IfSome o (λ v. IsSample file.now n x y c v)) }
     ensures none { IsSome (modest_level file.now n) → IfOk result (λ o. IfNone o (HasNoSample file.now n x y c)) }
 {
-    one_text();
+    law_one_text();
     let Some(order) = order_of(file) else {
         return Ok(None);
     };

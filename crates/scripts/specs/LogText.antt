@@ -2,7 +2,7 @@
 use Rattle.std.specs.Prelude.{ℕ, List, [], ◌∷◌, ◌++◌, length, codes, decimal, Option, Some, None}
 use Rattle.std.specs.List.{flat_map, join_by}
 use Rattle.hex.specs.Hex.{encode_lower}
-use Rattle.tiff_dir.specs.declared.span.Span.{Span}
+use Rattle.extents.specs.declared.span.Span.{Span}
 use Rattle.tiff_dir.specs.FaultNumber.{number_of_fault, tag_of_fault}
 use Rattle.http_range.specs.declared.reading.Why.TheVariants.{Status}
 use Rattle.cog_reader.specs.declared.outcome.Outcome.{Outcome}

@@ -5,9 +5,9 @@
 
 mod line;
 mod log;
+mod log_text_lines;
 mod number;
 mod source;
-mod text;
 mod verb;
 
 pub use line::{ScriptError, script};

@@ -4,7 +4,7 @@ ghost use Rattle.std.specs.List.{flat_map};
 ghost use Rattle.scripts.specs.LogSteps.{further};
 ghost use Rattle.scripts.specs.LogText.{answer_words, asked_words, client_of, current_words, delivered_words, effect_words, entry_lines, line, number_if, outcome_words, report_words, spaced, span_word, status_of, tag_word, text_of_log};
 
-use crate::text::Text;
+use crate::log_text_lines::LogLines;
 use http_range::{Memory, Span, Tag, Why};
 use itoa::{Buffer, Integer};
 use std::alloc::{AllocError, Global};
@@ -18,14 +18,14 @@ use world::{
 pub fn log_text(alloc: Global, log: &Log) -> Result<Vec<u8>, Memory>
     ensures { IfOk result (λ text. text.items ≡ text_of_log log.now.entries.items) }
 {
-    let mut text = Text::new(alloc);
+    let mut text = LogLines::new(alloc);
     for entry in &log.entries {
         push_entry(&mut text, entry)?;
     }
     Ok(text.into_bytes())
 }
 
-fn push_entry(text: &mut Text, entry: &Entry) -> Result<(), AllocError>
+fn push_entry(text: &mut LogLines, entry: &Entry) -> Result<(), AllocError>
     ensures { OnOk result (text.new.bytes.items ≡ text.old.bytes.items ++ flat_map line (entry_lines entry.now)) }
 {
     push_effect(text, &entry.effect)?;
@@ -48,7 +48,7 @@ fn client_of(effect: &Effect) -> Option<u32>
     }
 }
 
-fn push_effect(text: &mut Text, effect: &Effect) -> Result<(), AllocError>
+fn push_effect(text: &mut LogLines, effect: &Effect) -> Result<(), AllocError>
     ensures { OnOk result (text.new.bytes.items ≡ text.old.bytes.items ++ spaced (effect_words effect.now)) }
 {
     match effect {
@@ -82,7 +82,7 @@ fn push_effect(text: &mut Text, effect: &Effect) -> Result<(), AllocError>
 }
 
 /// The first word of a line, and its number.
-fn begin_counted<I: Integer>(text: &mut Text, word: &[u8], number: I) -> Result<(), AllocError>
+fn begin_counted<I: Integer>(text: &mut LogLines, word: &[u8], number: I) -> Result<(), AllocError>
     ensures { OnOk result (text.new.bytes.items ≡ text.old.bytes.items ++ spaced (word.now ∷ I.text number ∷ [])) }
 {
     text.push(word)?;
@@ -90,7 +90,7 @@ fn begin_counted<I: Integer>(text: &mut Text, word: &[u8], number: I) -> Result<
 }
 
 /// A further word, and its number.
-fn push_counted<I: Integer>(text: &mut Text, word: &[u8], number: I) -> Result<(), AllocError>
+fn push_counted<I: Integer>(text: &mut LogLines, word: &[u8], number: I) -> Result<(), AllocError>
     ensures { OnOk result (text.new.bytes.items ≡ text.old.bytes.items ++ further (word.now ∷ I.text number ∷ [])) }
 {
     text.word(word)?;
@@ -98,7 +98,7 @@ fn push_counted<I: Integer>(text: &mut Text, word: &[u8], number: I) -> Result<(
 }
 
 /// The line of a client that has nothing to send.
-fn push_nothing(text: &mut Text, word: &[u8], client: u32) -> Result<(), AllocError>
+fn push_nothing(text: &mut LogLines, word: &[u8], client: u32) -> Result<(), AllocError>
     ensures { OnOk result (text.new.bytes.items ≡ text.old.bytes.items ++ spaced (word.now ∷ decimal client ∷ codes "nothing" ∷ [])) }
 {
     begin_counted(text, word, client)?;
@@ -106,7 +106,7 @@ fn push_nothing(text: &mut Text, word: &[u8], client: u32) -> Result<(), AllocEr
 }
 
 /// A number, where it is there.
-fn push_number_if(text: &mut Text, number: Option<u16>) -> Result<(), AllocError>
+fn push_number_if(text: &mut LogLines, number: Option<u16>) -> Result<(), AllocError>
     ensures { OnOk result (text.new.bytes.items ≡ text.old.bytes.items ++ further (number_if number)) }
 {
     match number {
@@ -116,7 +116,7 @@ fn push_number_if(text: &mut Text, number: Option<u16>) -> Result<(), AllocError
 }
 
 /// An answer's number, its status and how many bytes of body it has.
-fn push_numbers(text: &mut Text, number: usize, answer: &Answer) -> Result<(), AllocError>
+fn push_numbers(text: &mut LogLines, number: usize, answer: &Answer) -> Result<(), AllocError>
     ensures { OnOk result (text.new.bytes.items
         ≡ text.old.bytes.items ++ further (decimal number ∷ decimal answer.now.status ∷ decimal answer.now.body ∷ [])) }
 {
@@ -126,7 +126,7 @@ fn push_numbers(text: &mut Text, number: usize, answer: &Answer) -> Result<(), A
 }
 
 /// An answer as further words.
-fn push_answer(text: &mut Text, number: usize, answer: &Answer) -> Result<(), AllocError>
+fn push_answer(text: &mut LogLines, number: usize, answer: &Answer) -> Result<(), AllocError>
     ensures { OnOk result (text.new.bytes.items ≡ text.old.bytes.items ++ further (answer_words number answer.now)) }
 {
     text.word(b"answer")?;
@@ -134,7 +134,7 @@ fn push_answer(text: &mut Text, number: usize, answer: &Answer) -> Result<(), Al
 }
 
 /// The span that a client asked for, the tag of its condition, and the answer.
-fn push_asked(text: &mut Text, asked: &AnsweredRequest) -> Result<(), AllocError>
+fn push_asked(text: &mut LogLines, asked: &AnsweredRequest) -> Result<(), AllocError>
     ensures { OnOk result (text.new.bytes.items ≡ text.old.bytes.items ++ spaced (asked_words asked.now)) }
 {
     begin_counted(text, b"asked", asked.client)?;
@@ -144,7 +144,7 @@ fn push_asked(text: &mut Text, asked: &AnsweredRequest) -> Result<(), AllocError
 }
 
 /// The first and the last position, with `-` between them.
-fn push_span(text: &mut Text, span: Span) -> Result<(), AllocError>
+fn push_span(text: &mut LogLines, span: Span) -> Result<(), AllocError>
     ensures { OnOk result (text.new.bytes.items ≡ text.old.bytes.items ++ further (span_word span ∷ [])) }
 {
     text.number(span.first)?;
@@ -153,7 +153,7 @@ fn push_span(text: &mut Text, span: Span) -> Result<(), AllocError>
 }
 
 /// The tag, or `-` without one.
-fn push_tag(text: &mut Text, tag: &Option<Tag>) -> Result<(), AllocError>
+fn push_tag(text: &mut LogLines, tag: &Option<Tag>) -> Result<(), AllocError>
     ensures { OnOk result (text.new.bytes.items ≡ text.old.bytes.items ++ further (tag_word tag.now ∷ [])) }
 {
     match tag {
@@ -163,7 +163,7 @@ fn push_tag(text: &mut Text, tag: &Option<Tag>) -> Result<(), AllocError>
 }
 
 /// The tag that a client checked, the answer, and what it says.
-fn push_checked(text: &mut Text, check: &AnsweredCheck) -> Result<(), AllocError>
+fn push_checked(text: &mut LogLines, check: &AnsweredCheck) -> Result<(), AllocError>
     ensures { OnOk result (text.new.bytes.items ≡ text.old.bytes.items ++ spaced (effect_words (Effect.Checked check.now))) }
 {
     begin_counted(text, b"checked", check.client)?;
@@ -172,7 +172,7 @@ fn push_checked(text: &mut Text, check: &AnsweredCheck) -> Result<(), AllocError
     push_current(text, check.current)
 }
 
-fn push_current(text: &mut Text, current: Current) -> Result<(), AllocError>
+fn push_current(text: &mut LogLines, current: Current) -> Result<(), AllocError>
     ensures { OnOk result (text.new.bytes.items ≡ text.old.bytes.items ++ further (current_words current)) }
 {
     match current {
@@ -182,7 +182,7 @@ fn push_current(text: &mut Text, current: Current) -> Result<(), AllocError>
     }
 }
 
-fn push_delivered(text: &mut Text, delivered: Delivered) -> Result<(), AllocError>
+fn push_delivered(text: &mut LogLines, delivered: Delivered) -> Result<(), AllocError>
     ensures { OnOk result (text.new.bytes.items ≡ text.old.bytes.items ++ further (delivered_words delivered)) }
 {
     match delivered {
@@ -206,7 +206,7 @@ fn status_of(ignored: Ignored) -> Option<u16>
 }
 
 /// The line of a report.
-fn push_report(text: &mut Text, client: u32, report: &Report) -> Result<(), AllocError>
+fn push_report(text: &mut LogLines, client: u32, report: &Report) -> Result<(), AllocError>
     ensures { OnOk result (text.new.bytes.items ≡ text.old.bytes.items ++ line (report_words client report.now)) }
 {
     begin_counted(text, b"report", client)?;
@@ -215,7 +215,7 @@ fn push_report(text: &mut Text, client: u32, report: &Report) -> Result<(), Allo
     text.end_line()
 }
 
-fn push_outcome(text: &mut Text, outcome: &Outcome) -> Result<(), AllocError>
+fn push_outcome(text: &mut LogLines, outcome: &Outcome) -> Result<(), AllocError>
     ensures { OnOk result (text.new.bytes.items ≡ text.old.bytes.items ++ further (outcome_words outcome.now)) }
 {
     match outcome {
@@ -226,7 +226,7 @@ fn push_outcome(text: &mut Text, outcome: &Outcome) -> Result<(), AllocError>
 }
 
 /// A window's sides, the samples of a pixel, and the bytes of its samples.
-fn push_window(text: &mut Text, window: &Window) -> Result<(), AllocError>
+fn push_window(text: &mut LogLines, window: &Window) -> Result<(), AllocError>
     ensures { OnOk result (text.new.bytes.items ≡ text.old.bytes.items ++ further (outcome_words (Outcome.Window window.now))) }
 {
     push_counted(text, b"window", window.w)?;
@@ -236,7 +236,7 @@ fn push_window(text: &mut Text, window: &Window) -> Result<(), AllocError>
 }
 
 /// How many levels and keys there are.
-fn push_info(text: &mut Text, info: &Info) -> Result<(), AllocError>
+fn push_info(text: &mut LogLines, info: &Info) -> Result<(), AllocError>
     ensures { OnOk result (text.new.bytes.items ≡ text.old.bytes.items ++ further (outcome_words (Outcome.Info info.now))) }
 {
     push_counted(text, b"info", info.sides.len())?;
@@ -244,7 +244,7 @@ fn push_info(text: &mut Text, info: &Info) -> Result<(), AllocError>
 }
 
 /// A fault's number, and the field that it is about.
-fn push_fault(text: &mut Text, fault: FileFault) -> Result<(), AllocError>
+fn push_fault(text: &mut LogLines, fault: FileFault) -> Result<(), AllocError>
     ensures { OnOk result (text.new.bytes.items ≡ text.old.bytes.items ++ further (outcome_words (Outcome.Fault fault))) }
 {
     push_counted(text, b"fault", fault.number())?;

@@ -8,7 +8,8 @@ use Rattle.tiff_dir.specs.declared.fault.FileFault.{FileFault}
 use Rattle.tiff_dir.specs.declared.fault.FileFault.TheVariants.{Header, DirPlace, DirCount, TooManyDirs}
 use Rattle.tiff_dir.specs.Number.{number_in}
 use Rattle.tiff_dir.specs.File.{order_of, number, directory, has_directory, entry_count, field_at, fields_from, fields, has_all_tags}
-use Rattle.tiff_dir.specs.Needs.{Extent, bytes_in, is_entry_count, count_range, table_range, ranges_of_directory, outside_ranges}
+use Rattle.extents.specs.Extent.{Extent, bytes_in}
+use Rattle.tiff_dir.specs.Needs.{is_entry_count, count_range, table_range, ranges_of_directory, outside_ranges}
 use Rattle.tiff_dir.specs.Fault.{is_directory_place, IsFaultAt, IsFaultOfDirectories}
 use Rattle.tiff_dir.specs.Table.{entry_at, entries_from, field_of}
 use Rattle.tiff_dir.specs.Stage.{ranges_from, IsWalked, Follows, Reaches, Counts, IsOver}

@@ -1,4 +1,5 @@
 -- What a file without fault in its directories has: each table, and each level's layout.
+use Rattle.tiff_dir.specs.declared.level.Compression.{Compression}
 use Rattle.tiff_dir.specs.declared.tags.TheConstants.{BITS_PER_SAMPLE, COMPRESSION, PHOTOMETRIC_INTERPRETATION, PLANAR_CONFIGURATION, SAMPLES_PER_PIXEL, SAMPLE_FORMAT}
 use Rattle.std.proofs.Common.{◌-◌, ◌≡◌, ◌≢◌, ℕ, zero, suc, ◌+◌, ◌*◌, ◌<◌, ◌≤◌, ◌⊎◌, inl, inr, Bool, true, false, if◌then◌else◌, List, [], ◌∷◌, ◌++◌, length, get_or, drop, Option, Some, None, refl, sym, subst, ap, ◌∙◌, arith}
 use Rattle.std.specs.Option.{option_map_or, option_to_list}
@@ -8,7 +9,7 @@ use Rattle.std.proofs.lemmas.Bool.{and_parts, cases_Bool, cases_eq, ltb-false, f
 use Rattle.std.proofs.lemmas.List.{length-take, length-drop}
 use Rattle.std.proofs.lemmas.Option.{none-some, same_Some}
 use Rattle.tiff_dir.specs.declared.order.Order.{Order}
-use Rattle.tiff_dir.specs.declared.table.Entry.{Entry}
+use Rattle.tiff_dir.specs.declared.table.DirectoryEntry.{DirectoryEntry}
 use Rattle.tiff_dir.specs.declared.rule.Rule.{Rule}
 use Rattle.tiff_dir.specs.declared.stage.Draft.{Draft}
 use Rattle.tiff_dir.specs.declared.fault.FileFault.{FileFault}
@@ -16,8 +17,9 @@ use Rattle.tiff_dir.specs.declared.fault.FileFault.TheVariants.{Header, PastEnd,
 use Rattle.tiff_dir.specs.Number.{number_in}
 use Rattle.tiff_dir.specs.File.{order_of, number, directory, has_directory, directories, entry_count, value}
 use Rattle.tiff_dir.specs.Profile.{profile, accepts, samples_fit, is_depth}
-use Rattle.tiff_dir.specs.Level.{is_level, layout_at, depth_at}
-use Rattle.tiff_dir.specs.Needs.{Extent, bytes_in, ends_past, is_entry_count, count_range, table_range, outside_range, ranges_of_directory, needs_of_directories, outside_ranges}
+use Rattle.tiff_dir.specs.Level.{is_level, compression_of, layout_at, depth_at}
+use Rattle.extents.specs.Extent.{Extent, bytes_in, ends_past}
+use Rattle.tiff_dir.specs.Needs.{is_entry_count, count_range, table_range, outside_range, ranges_of_directory, needs_of_directories, outside_ranges}
 use Rattle.tiff_dir.specs.Fault.{is_directory_place, IsFaultOfLevel, IsFaultOfDirectories}
 use Rattle.tiff_dir.specs.Table.{entries_from, entry_with_tag, allows, keeps, short_or, draft_in, long_in, IsEntryFault, HasValues, HasCounts}
 use Rattle.tiff_dir.specs.Shape.{has_sides, has_tiles, has_arrays, layout_from}
@@ -25,7 +27,7 @@ use Rattle.tiff_dir.specs.Stage.{header_range, three_shorts, IsWalked, Counts, H
 use Rattle.tiff_dir.proofs.Parts.{number_inside}
 use Rattle.tiff_dir.proofs.Chain.{some_and_from}
 use Rattle.tiff_dir.proofs.Fields.{has_table}
-use Rattle.tiff_dir.proofs.Levels.{fits_cases, profile_fault, value_fault, count_fault, drafted}
+use Rattle.tiff_dir.proofs.Levels.{fits_cases, profile_fault, value_fault, count_fault, drafted, compression_named}
 use Rattle.tiff_dir.proofs.Outside.{level_fault, bits_there, bits_outside, bits_value}
 use Rattle.tiff_dir.proofs.Ends.{no_width, depth_told, tiles_fault, arrays_fault, layout_told}
 use Rattle.tiff_dir.proofs.Told.{there_below}
@@ -180,7 +182,7 @@ counted f o k clean order few there =
 
 -- the table of directory k
 pub record IsTabled (f : List ℕ) (o : Order) (k : ℕ) : Type 0 where
-  pub entries : List Entry
+  pub entries : List DirectoryEntry
   pub has : HasTable f k entries
 
 pub tabled : (f : List ℕ) (o : Order) (k : ℕ) → IsClean f → order_of f ≡ Some o → k < 16 → has_directory f k ≡ true → IsTabled f o k
@@ -196,9 +198,9 @@ tabled f o k clean order few there =
 
 -- ---- a level
 
-not_met : (es : List Entry) (r : Rule) → keeps es r ≡ false → (fault : FileFault) × IsEntryFault r es fault
+not_met : (es : List DirectoryEntry) (r : Rule) → keeps es r ≡ false → (fault : FileFault) × IsEntryFault r es fault
 not_met es r bad = at (entry_with_tag r.tag es) refl where
-  at : (o : Option Entry) → entry_with_tag r.tag es ≡ o → (fault : FileFault) × IsEntryFault r es fault
+  at : (o : Option DirectoryEntry) → entry_with_tag r.tag es ≡ o → (fault : FileFault) × IsEntryFault r es fault
   at None is = (Missing r.tag, (refl, not_false r.required (λ optional. false≢true (sym bad ∙ rw (is, optional) refl)), is))
   at (Some e) is = (FieldType r.tag, (refl, some_and_from (entry_with_tag r.tag es) (λ x. allows r x ≡ false) e is (rw is at bad)))
 
@@ -209,27 +211,32 @@ IsSound f k = (fault : FileFault) → IsFaultOfLevel f k fault → ⊥
 sound_level : (f : List ℕ) (k : ℕ) → IsClean f → k < 16 → has_directory f k ≡ true → is_level f k ≡ true → IsSound f k
 sound_level f k clean few there level fault bad = clean fault (level_fault f k fault few there level bad)
 
-all_met : (f : List ℕ) (k : ℕ) (es : List Entry) → HasTable f k es → IsSound f k → AllPass (keeps es) profile
+all_met : (f : List ℕ) (k : ℕ) (es : List DirectoryEntry) → HasTable f k es → IsSound f k → AllPass (keeps es) profile
 all_met f k es has sound = λ j d within. not_false (keeps es (get_or profile j d)) (λ bad.
     let (fault, is) = not_met es (get_or profile j d) bad in
     sound fault (profile_fault f k es fault has (j, d, within, is)))
 
-has_values : (f : List ℕ) (k : ℕ) (es : List Entry) → HasTable f k es → IsSound f k → AllPass (keeps es) profile → HasValues es
-has_values f k es has sound met = record {
-  photometric = not_false _ (λ bad. sound (Unsupported PHOTOMETRIC_INTERPRETATION) (value_fault f k es (Unsupported PHOTOMETRIC_INTERPRETATION) has met (inl (refl, bad))));
-  samples = not_false _ (λ bad. sound (Unsupported SAMPLES_PER_PIXEL) (value_fault f k es (Unsupported SAMPLES_PER_PIXEL) has met (inr (inl (refl, bad)))));
-  planar = not_false _ (λ bad. sound (Unsupported PLANAR_CONFIGURATION) (value_fault f k es (Unsupported PLANAR_CONFIGURATION) has met (inr (inr (inl (refl, bad))))));
-  compression = not_false _ (λ bad. sound (Unsupported COMPRESSION) (value_fault f k es (Unsupported COMPRESSION) has met (inr (inr (inr (refl, bad))))));
-}
+has_values : (f : List ℕ) (k : ℕ) (es : List DirectoryEntry) → HasTable f k es → IsSound f k → AllPass (keeps es) profile → (c : Compression) × HasValues es c
+has_values f k es has sound met = (
+  named.0,
+  record {
+    photometric = not_false _ (λ bad. sound (Unsupported PHOTOMETRIC_INTERPRETATION) (value_fault f k es (Unsupported PHOTOMETRIC_INTERPRETATION) has met (inl (refl, bad))));
+    samples = not_false _ (λ bad. sound (Unsupported SAMPLES_PER_PIXEL) (value_fault f k es (Unsupported SAMPLES_PER_PIXEL) has met (inr (inl (refl, bad)))));
+    planar = not_false _ (λ bad. sound (Unsupported PLANAR_CONFIGURATION) (value_fault f k es (Unsupported PLANAR_CONFIGURATION) has met (inr (inr (inl (refl, bad))))));
+    compression = named.1;
+  },
+) where
+  named : (c : Compression) × (compression_of (short_or es COMPRESSION 0) ≡ Some c)
+  named = compression_named (short_or es COMPRESSION 0) (not_false _ (λ bad. sound (Unsupported COMPRESSION) (value_fault f k es (Unsupported COMPRESSION) has met (inr (inr (inr (refl, bad)))))))
 
-has_counts : (f : List ℕ) (k : ℕ) (es : List Entry) → HasTable f k es → IsSound f k → AllPass (keeps es) profile → HasCounts es
+has_counts : (f : List ℕ) (k : ℕ) (es : List DirectoryEntry) → HasTable f k es → IsSound f k → AllPass (keeps es) profile → HasCounts es
 has_counts f k es has sound met = (
   not_false _ (λ bad. sound (FieldType BITS_PER_SAMPLE) (count_fault f k es (FieldType BITS_PER_SAMPLE) has met (inl (refl, bad)))),
   not_false _ (λ bad. sound (FieldType SAMPLE_FORMAT) (count_fault f k es (FieldType SAMPLE_FORMAT) has met (inr (refl, bad)))),
 )
 
 -- the values of BitsPerSample are there
-some_bits : (f : List ℕ) (o : Order) (k : ℕ) (es : List Entry) → IsClean f → order_of f ≡ Some o → k < 16 → has_directory f k ≡ true → is_level f k ≡ true → HasTable f k es → AllPass (keeps es) profile → HasValues es → HasCounts es
+some_bits : (f : List ℕ) (o : Order) (k : ℕ) (es : List DirectoryEntry) {c : Compression} → IsClean f → order_of f ≡ Some o → k < 16 → has_directory f k ≡ true → is_level f k ≡ true → HasTable f k es → AllPass (keeps es) profile → HasValues es c → HasCounts es
     → (bits : ℕ) × (value f k BITS_PER_SAMPLE 0 ≡ Some bits)
 some_bits f o k es clean order few there level has met right counts = elim (fits_cases (short_or es SAMPLES_PER_PIXEL 1) (short_or es PHOTOMETRIC_INTERPRETATION 0) right.samples) [
   | inl one ↦ (short_or es BITS_PER_SAMPLE 0, bits_value f k es has met counts one)
@@ -264,9 +271,9 @@ laid f o k clean order few there level =
     let has = t.has in
     let sound = sound_level f k clean few there level in
     let met = all_met f k es has sound in
-    let right = has_values f k es has sound met in
+    let (compression, right) = has_values f k es has sound met in
     let counts = has_counts f k es has sound met in
-    let d = draft_in es in
+    let d = draft_in es compression in
     let (bits, told) = some_bits f o k es clean order few there level has met right counts in
     let is = drafted f k es has met right in
     let depth = not_false (is_depth bits) (λ bad. sound (Unsupported BITS_PER_SAMPLE) (inl (0, some_and_from (value f k BITS_PER_SAMPLE 0) (λ v. accepts BITS_PER_SAMPLE v ≡ false) bits told bad))) in

@@ -16,7 +16,7 @@ use Rattle.tiff_dir.specs.declared.fault.FileFault.{FileFault}
 use Rattle.tiff_dir.specs.declared.fault.FileFault.TheVariants.{PastEnd, Outside, TooLarge}
 use Rattle.tiff_dir.specs.File.{has_directory, directories}
 use Rattle.tiff_dir.specs.Level.{Layout, is_level, level_directories, level_directory, level_grid, level_layout, level_value}
-use Rattle.tiff_dir.specs.Needs.{Extent, ends_past}
+use Rattle.extents.specs.Extent.{Extent, ends_past}
 use Rattle.tiff_dir.specs.Query.{Rectangle, has_columns, smallest_level, scaled_down, scaled_up, scaled, rectangle, passes, is_outside_level, is_outside, is_too_large, is_refused, tiles_in, window_tiles, array_range, tile_range, array_ranges, tile_ranges}
 use Rattle.tiff_dir.specs.Faulty.{IsFaultOfWindow, IsFaulty}
 use Rattle.tiff_dir.specs.Shape.{layout_from}

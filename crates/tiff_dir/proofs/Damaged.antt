@@ -16,7 +16,8 @@ use Rattle.tiff_dir.specs.Number.{number_in}
 use Rattle.tiff_dir.specs.File.{◌>>=◌, order_of, number, directory, has_directory, directories, entry_count, field_at, fields_from, fields, has_all_tags, field, values_at, field_value, value}
 use Rattle.tiff_dir.specs.Level.{is_level, level_directories, place_of, grid_at, layout_at, level_directory, level_grid, level_value, depth_at, plain_size_at}
 use Rattle.tiff_dir.specs.Profile.{accepts, is_tile_side}
-use Rattle.tiff_dir.specs.Needs.{count_range, table_range, field_range, outside_range, ranges_of_directory, needs_of_directories, ends_past, outside_ranges}
+use Rattle.extents.specs.Extent.{ends_past}
+use Rattle.tiff_dir.specs.Needs.{count_range, table_range, field_range, outside_range, ranges_of_directory, needs_of_directories, outside_ranges}
 use Rattle.tiff_dir.specs.Query.{rectangle, is_outside, is_too_large, tiles_in, window_tiles, array_range, tile_range, array_ranges, tile_ranges}
 use Rattle.tiff_dir.specs.Fault.{IsUnsupported, IsFaultOfLevel, IsFaultOfDirectories}
 use Rattle.tiff_dir.specs.Faulty.{is_byte_count, IsNotPlainSize, HasBadTile, IsFaulty}

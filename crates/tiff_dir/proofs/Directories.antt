@@ -3,13 +3,14 @@ use Rattle.tiff_dir.specs.declared.tags.TheConstants.{NEW_SUBFILE_TYPE}
 use Rattle.std.proofs.Common.{◌≡◌, ℕ, suc, ◌+◌, ◌*◌, ◌%◌, inl, inr, true, false, ◌&&◌, ◌||◌, ◌==◌, List, [], ◌∷◌, map, length, Some, None, refl, sym, ap, ◌∙◌, add-one}
 use Rattle.std.proofs.lemmas.Bool.{and_parts, and_from, eqb-true, eq-eqb, false≢true}
 use Rattle.tiff_dir.specs.declared.order.Order.{Order}
-use Rattle.tiff_dir.specs.declared.table.Entry.{Entry}
+use Rattle.tiff_dir.specs.declared.table.DirectoryEntry.{DirectoryEntry}
 use Rattle.tiff_dir.specs.declared.fault.FileFault.{FileFault}
 use Rattle.tiff_dir.specs.declared.fault.FileFault.TheVariants.{Missing, DirPlace, DirCount, TagOrder, FieldType, LevelShape}
 use Rattle.tiff_dir.specs.File.{directory, entry_count, value}
 use Rattle.tiff_dir.specs.Profile.{subfile_rule}
 use Rattle.tiff_dir.specs.Level.{is_level}
-use Rattle.tiff_dir.specs.Needs.{bytes_in, is_entry_count, outside_ranges}
+use Rattle.extents.specs.Extent.{bytes_in}
+use Rattle.tiff_dir.specs.Needs.{is_entry_count, outside_ranges}
 use Rattle.tiff_dir.specs.Fault.{is_directory_place, ascends, IsFaultAt, IsFaultOfDirectory, IsFaultOfDirectories}
 use Rattle.tiff_dir.specs.Table.{field_of, keeps, single_or, IsEntryFault}
 use Rattle.tiff_dir.specs.Stage.{Counts, EndsDirectory, Follows, HasTable, IsAt, StepsOn, index_of, ranges_from, still}
@@ -21,22 +22,22 @@ use Rattle.tiff_dir.proofs.GoingOn.{ends_on, levels_passed}
 use Rattle.tiff_dir.proofs.Chain.{some_and_at, some_and_from, goes_on, next_is}
 use Rattle.tiff_dir.proofs.Fields.{single_told, no_rule_fault, rule_fault}
 
-subfile_told : (f : List ℕ) (k : ℕ) (es : List Entry) → HasTable f k es → keeps es subfile_rule ≡ true → value f k NEW_SUBFILE_TYPE 0 ≡ Some (single_or es NEW_SUBFILE_TYPE 0)
+subfile_told : (f : List ℕ) (k : ℕ) (es : List DirectoryEntry) → HasTable f k es → keeps es subfile_rule ≡ true → value f k NEW_SUBFILE_TYPE 0 ≡ Some (single_or es NEW_SUBFILE_TYPE 0)
 subfile_told f k es has met = single_told f k es subfile_rule 0 has met tt refl (inl refl)
 
-pub is_level_told : (f : List ℕ) (k : ℕ) (es : List Entry) → HasTable f k es → keeps es subfile_rule ≡ true → is_level f k ≡ ((k == 0) || (single_or es NEW_SUBFILE_TYPE 0 == 1))
+pub is_level_told : (f : List ℕ) (k : ℕ) (es : List DirectoryEntry) → HasTable f k es → keeps es subfile_rule ≡ true → is_level f k ≡ ((k == 0) || (single_or es NEW_SUBFILE_TYPE 0 == 1))
 unfolding is_level
 is_level_told f k es has met = rw (subfile_told f k es has met) refl
 
-pub tags_fault : (f : List ℕ) (k : ℕ) (es : List Entry) → HasTable f k es → ascends (map field_of es) ≡ false → IsFaultOfDirectory f k TagOrder
+pub tags_fault : (f : List ℕ) (k : ℕ) (es : List DirectoryEntry) → HasTable f k es → ascends (map field_of es) ≡ false → IsFaultOfDirectory f k TagOrder
 tags_fault f k es has bad = rw has.told bad
 
-pub subfile_fault : (f : List ℕ) (k : ℕ) (es : List Entry) (fault : FileFault) → HasTable f k es → IsEntryFault subfile_rule es fault → IsFaultOfDirectory f k fault
+pub subfile_fault : (f : List ℕ) (k : ℕ) (es : List DirectoryEntry) (fault : FileFault) → HasTable f k es → IsEntryFault subfile_rule es fault → IsFaultOfDirectory f k fault
 subfile_fault f k es (FieldType tag) has bad = rule_fault f k es subfile_rule (FieldType tag) has bad
 subfile_fault f k es (Missing tag) has bad = false≢true bad.1
 subfile_fault f k es _ has bad = absurd bad
 
-pub shape_fault : (f : List ℕ) (k : ℕ) (es : List Entry) → HasTable f k es → keeps es subfile_rule ≡ true → ((k == 0) && (single_or es NEW_SUBFILE_TYPE 0 % 2 == 1)) ≡ true → IsFaultOfDirectory f k LevelShape
+pub shape_fault : (f : List ℕ) (k : ℕ) (es : List DirectoryEntry) → HasTable f k es → keeps es subfile_rule ≡ true → ((k == 0) && (single_or es NEW_SUBFILE_TYPE 0 % 2 == 1)) ≡ true → IsFaultOfDirectory f k LevelShape
 shape_fault f k es has met bad =
     let parts = and_parts (k == 0) (single_or es NEW_SUBFILE_TYPE 0 % 2 == 1) bad in
     let first : k ≡ 0 = eqb-true k 0 parts.0 in
@@ -44,7 +45,7 @@ shape_fault f k es has met bad =
     (first, some_and_from (value f 0 NEW_SUBFILE_TYPE 0) (λ v. v % 2 ≡ 1) (single_or es NEW_SUBFILE_TYPE 0) told (eqb-true (single_or es NEW_SUBFILE_TYPE 0 % 2) 1 parts.1))
 
 -- nothing is wrong with the directory
-pub directory_clean : (f : List ℕ) (o : Order) (k at n : ℕ) (es : List Entry) → Counts f o k at n → HasTable f k es → ascends (map field_of es) ≡ true → keeps es subfile_rule ≡ true
+pub directory_clean : (f : List ℕ) (o : Order) (k at n : ℕ) (es : List DirectoryEntry) → Counts f o k at n → HasTable f k es → ascends (map field_of es) ≡ true → keeps es subfile_rule ≡ true
     → ((k == 0) && (single_or es NEW_SUBFILE_TYPE 0 % 2 == 1)) ≡ false → (fault : FileFault) → IsFaultOfDirectory f k fault → ⊥
 unfolding entry_count
 directory_clean f o k at n es counts has tags met shape DirPlace bad =

@@ -6,11 +6,11 @@ use Rattle.std.proofs.lemmas.Option.{same_Some, none-some}
 use Rattle.std.proofs.lemmas.Bool.{and_parts, and_cases, eqb-true, ltb-true, ltb-false, cases_eq, false≢true}
 use Rattle.std.specs.Option.{option_map}
 use Rattle.std.specs.List.{AllPass}
-use Rattle.tiff_dir.specs.declared.table.Entry.{Entry}
+use Rattle.tiff_dir.specs.declared.table.DirectoryEntry.{DirectoryEntry}
 use Rattle.tiff_dir.specs.declared.rule.Rule.{Rule}
 use Rattle.tiff_dir.specs.declared.level.Kind.{Kind}
 use Rattle.tiff_dir.specs.declared.level.Kind.TheVariants as kind
-use Rattle.tiff_dir.specs.Table.{keeps, short_or, place_or, draft_in, HasValues}
+use Rattle.tiff_dir.specs.Table.{keeps, short_or, place_or, draft_in, HasValues, HasCounts, IsReadIn}
 use Rattle.tiff_dir.proofs.Fields.{kind_told, kind_long, typed, met_entry, met_there}
 use Rattle.tiff_dir.proofs.Levels.{fits_cases}
 use Rattle.tiff_dir.specs.declared.level.Level.{Level}
@@ -293,7 +293,7 @@ is_multiple side good =
     let whole : side % 16 ≡ 0 = eqb-true (side % 16) 0 p.1 in
     (omega arith, whole)
 
-long_place : (es : List Entry) → AllPass (keeps es) profile → (place_or es TILE_OFFSETS).kind ≡ kind.Long
+long_place : (es : List DirectoryEntry) → AllPass (keeps es) profile → (place_or es TILE_OFFSETS).kind ≡ kind.Long
 unfolding profile
 long_place es met =
     let r : Rule = get_or profile 10 subfile_rule in
@@ -306,7 +306,7 @@ long_place es met =
 abbrev IsCount : Kind → Type 0
 IsCount k = k ≢ kind.Short → k ≡ kind.Long
 
-whole_place : (es : List Entry) → AllPass (keeps es) profile → IsCount (place_or es TILE_BYTE_COUNTS).kind
+whole_place : (es : List DirectoryEntry) → AllPass (keeps es) profile → IsCount (place_or es TILE_BYTE_COUNTS).kind
 unfolding profile
 whole_place es met =
     let r : Rule = get_or profile 11 subfile_rule in
@@ -314,7 +314,18 @@ whole_place es met =
     let (e, there) = met_there es r ok refl in
     elim (kind_told r.typing e.kind tt (typed r e (met_entry es r e ok there))) [ inl three ↦ λ no_short. absurd (no_short (rw there (rw three refl))) | inr four ↦ λ no_short. rw there (rw four refl) ]
 
-pub draft_bounds : (es : List Entry) (d : Draft) → AllPass (keeps es) profile → HasValues es → d ≡ draft_in es → IsBounded d → IsDraft d
+-- a draft that is read has the compression that its entries name
+pub read_in : (es : List DirectoryEntry) (c : Compression) (d : Draft) → AllPass (keeps es) profile → HasValues es c → HasCounts es → d ≡ draft_in es c → IsReadIn es d
+unfolding draft_in
+read_in es c d met right counts is =
+    let same : c ≡ d.compression = sym (ap (λ (x : Draft). x.compression) is) in record {
+      met = met;
+      values = subst (HasValues es) same right;
+      counts = counts;
+      draft = subst (λ k. d ≡ draft_in es k) same is;
+    }
+
+pub draft_bounds : (es : List DirectoryEntry) {c : Compression} (d : Draft) → AllPass (keeps es) profile → HasValues es c → d ≡ draft_in es c → IsBounded d → IsDraft d
 unfolding draft_in
 draft_bounds es d met right is bounded = record {
   bounded = bounded;

@@ -1,4 +1,5 @@
 -- Where no fault stands for a window, the file has one.
+use Rattle.tiff_dir.specs.declared.field_values.TheConstants.{COMPRESSION_NONE}
 use Rattle.tiff_dir.specs.declared.tags.TheConstants.{COMPRESSION, SAMPLES_PER_PIXEL, TILE_BYTE_COUNTS, TILE_OFFSETS}
 use Rattle.tiff_dir.specs.declared.limits.TheConstants.{MAX_TILES}
 use Rattle.std.proofs.Common.{◌≡◌, ℕ, zero, suc, ◌+◌, ◌-◌, ◌*◌, ◌/◌, ◌%◌, ◌<◌, ◌≤◌, ◌⊎◌, inr, true, false, List, [], ◌∷◌, length, drop, Option, Some, None, refl, sym, subst, ap, ◌∙◌, arith}
@@ -13,7 +14,7 @@ use Rattle.tiff_dir.specs.declared.order.Order.{Order}
 use Rattle.tiff_dir.specs.declared.level.Place.{Place}
 use Rattle.tiff_dir.specs.declared.level.Kind.{Kind}
 use Rattle.tiff_dir.specs.declared.level.Compression.{Compression}
-use Rattle.tiff_dir.specs.declared.level.Compression.TheVariants.{Plain, PackBits}
+use Rattle.tiff_dir.specs.declared.level.Compression.TheVariants.{Plain, Packed}
 use Rattle.tiff_dir.specs.declared.stage.Draft.{Draft}
 use Rattle.tiff_dir.specs.declared.query.Query.{Query}
 use Rattle.tiff_dir.specs.declared.query.Query.TheVariants.{Window}
@@ -24,8 +25,9 @@ use Rattle.tiff_dir.specs.Number.{number_in}
 use Rattle.tiff_dir.specs.File.{◌>>=◌, Field, kind_of, size_of, values_at, field, value}
 use Rattle.tiff_dir.specs.Profile.{sample_bytes, accepts}
 use Rattle.tiff_dir.specs.Level.{Layout, place_of, level_directory, level_layout, level_value, plain_size, plain_row, plain_size_at, tile_total}
-use Rattle.tiff_dir.specs.Needs.{Extent, extent_of_place}
-use Rattle.tiff_dir.specs.Walk.{bytes_in}
+use Rattle.extents.specs.Extent.{Extent}
+use Rattle.tiff_dir.specs.Needs.{extent_of_place}
+use Rattle.extents.specs.Extent.{bytes_in}
 use Rattle.tiff_dir.specs.Query.{Rectangle, rectangle, tile_range, array_range, window_tiles, segment}
 use Rattle.tiff_dir.specs.Window.{IsUnpackedBy, IsUnpacked, tile_at, place_in_tile, sample_in, HasSamples, IsSample}
 use Rattle.tiff_dir.specs.Faulty.{HasTile, is_byte_count, IsNotPlainSize, IsFaulty, IsWindow}
@@ -117,7 +119,7 @@ segment_there f n t b = rw (range_there f n t b.first b.count b.first_is b.count
 
 -- ---- its bytes unpacked
 
-compression_there : (f : List ℕ) (n : ℕ) (l : IsLaidLevel f n) → l.laid.draft.compression ≡ Plain → level_value f n COMPRESSION 0 ≡ Some 1
+compression_there : (f : List ℕ) (n : ℕ) (l : IsLaidLevel f n) → l.laid.draft.compression ≡ Plain → level_value f n COMPRESSION 0 ≡ Some COMPRESSION_NONE
 unfolding level_value
 compression_there f n l plain = rw l.there (plain_number (value f l.directory COMPRESSION 0) (l.laid.drafted.compression ∙ ap Some plain))
 
@@ -166,7 +168,7 @@ plain_there f q t c a b there none = at a.placed.level.laid.draft.compression re
     size = bytes_len f n t b ∙ plain_count f q t c a b there is;
     unpacked = subst (λ (how : Compression). IsUnpackedBy how (plain_row l) (plain_size l) bytes bytes) (sym is) refl;
   })
-  at PackBits is =
+  at (Packed codec) is =
       let wrong : (plain : List ℕ) → IsUnpacked l bytes plain → ⊥ = λ plain unpacked. none plain (record {
         size = (subst (λ (how : Compression). IsUnpackedBy how (plain_row l) (plain_size l) bytes plain) is unpacked).0;
         unpacked = unpacked;
@@ -269,7 +271,7 @@ window_there f q sound c a none =
       }),
     ))
 
-pub some_window : (f : List ℕ) (x y w h : ℕ) (p : Pick) → ((fault : FileFault) → IsFaulty f (Window x y w h p) fault → ⊥) → ((v : List ℕ) → IsWindow f (Window x y w h p) v → ⊥) → ⊥
-some_window f x y w h p sound none =
+pub law_some_window : (f : List ℕ) (x y w h : ℕ) (p : Pick) → ((fault : FileFault) → IsFaulty f (Window x y w h p) fault → ⊥) → ((v : List ℕ) → IsWindow f (Window x y w h p) v → ⊥) → ⊥
+law_some_window f x y w h p sound none =
     let c = clear f x y w h p sound in
     window_there f (Window x y w h p) sound c (asked f x y w h p c.directories (not_outside f (Window x y w h p) c)) none

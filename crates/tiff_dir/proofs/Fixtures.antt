@@ -6,14 +6,16 @@ use Rattle.tiff_dir.specs.declared.order.Order.{Order}
 use Rattle.tiff_dir.specs.declared.order.Order.TheVariants.{Little, Big}
 use Rattle.tiff_dir.specs.declared.level.Kind.TheVariants as kind
 use Rattle.tiff_dir.specs.declared.level.Place.{Place}
-use Rattle.tiff_dir.specs.declared.level.Compression.TheVariants.{Plain, PackBits}
+use Rattle.tiff_dir.specs.declared.level.Compression.TheVariants.{Plain, Packed}
+use Rattle.tiff_dir.specs.declared.level.Codec.TheVariants.{PackBits}
 use Rattle.tiff_dir.specs.declared.query.Query.{Query}
 use Rattle.tiff_dir.specs.declared.query.Query.TheVariants.{Window}
 use Rattle.tiff_dir.specs.declared.query.Pick.TheVariants as pick
 use Rattle.tiff_dir.specs.Number.{number_in}
 use Rattle.tiff_dir.specs.File.{order_of, number, directory, has_directory, directories, entry_count, field_at, fields_from, fields, has_all_tags, field, values_at, field_value, value}
 use Rattle.tiff_dir.specs.Level.{Layout, is_level, level_directories, place_of, grid_at, depth_at, layout_at, layouts, level_directory, level_grid, level_layout, level_value}
-use Rattle.tiff_dir.specs.Needs.{Extent, count_range, table_range, field_range, outside_range, ranges_of_directory, needs_of_directories, outside_ranges}
+use Rattle.extents.specs.Extent.{Extent}
+use Rattle.tiff_dir.specs.Needs.{count_range, table_range, field_range, outside_range, ranges_of_directory, needs_of_directories, outside_ranges}
 use Rattle.tiff_dir.specs.Geo.{geo_place, geo_ranges}
 use Rattle.tiff_dir.specs.Query.{smallest_level, scaled, rectangle, is_outside, is_too_large, tiles_in, window_tiles, array_range, tile_range, joined_after, array_ranges, tile_ranges, needs_of_query, needs, cost, segment}
 
@@ -165,7 +167,7 @@ layout_of_three_samples : layouts three_samples ≡ Some (record {
   grid = record { width = 20; length = 18; tile_width = 16; tile_length = 16 };
   samples = 3;
   bits = 8;
-  compression = PackBits;
+  compression = Packed PackBits;
   offsets = record { first = 140; len = 16; count = 4; kind = kind.Long };
   counts = record { first = 156; len = 8; count = 4; kind = kind.Short };
 }) ∷ []

@@ -7,11 +7,11 @@ use Rattle.std.proofs.lemmas.Bool.Decides.{nat_tests}
 use Rattle.std.proofs.lemmas.List.{get_or_default}
 use Rattle.std.proofs.Math.Nat.{mul-pos}
 use Rattle.tiff_dir.specs.declared.order.Order.{Order}
-use Rattle.tiff_dir.specs.declared.table.Entry.{Entry}
+use Rattle.tiff_dir.specs.declared.table.DirectoryEntry.{DirectoryEntry}
 use Rattle.tiff_dir.specs.declared.geo.GeoEntries.{GeoEntries}
 use Rattle.tiff_dir.specs.declared.geo.GeoPlaces.{GeoPlaces}
 use Rattle.tiff_dir.specs.declared.rule.Rule.{Rule}
-use Rattle.tiff_dir.specs.declared.rule.Count.TheVariants.{Samples}
+use Rattle.tiff_dir.specs.declared.rule.ValueCount.TheVariants.{Samples}
 use Rattle.tiff_dir.specs.declared.level.Place.{Place}
 use Rattle.tiff_dir.specs.declared.level.Kind.{Kind}
 use Rattle.tiff_dir.specs.declared.level.Kind.TheVariants as kinds
@@ -27,7 +27,7 @@ use Rattle.tiff_dir.specs.Geo.{geo_place, IsGeoFault}
 use Rattle.tiff_dir.specs.Fault.{IsRuleFault}
 use Rattle.tiff_dir.specs.GeoEntries.{geo_in, place_by, ArePlacesBy, IsFaultBy}
 use Rattle.tiff_dir.specs.WalkState.{HasGeo}
-use Rattle.tiff_dir.specs.Needs.{bytes_in}
+use Rattle.extents.specs.Extent.{bytes_in}
 use Rattle.tiff_dir.specs.Stage.{range_of, AgreesAt, HasTable}
 use Rattle.tiff_dir.specs.Table.{allows, counts_one, entries_from, field_of, entry_with_tag, kind_in, len_of, keeps, place_in}
 use Rattle.tiff_dir.specs.Walk.{AreGeoPlaces, IsGeoFieldAt, IsGeoPlace}
@@ -46,12 +46,12 @@ geo_taken f bytes stage o k at n g is first are len here part =
 -- ---- one field
 
 -- what a place that is found tells of its entry
-record IsPlaced (r : Rule) (e : Entry) (p : Option Place) : Type 0 where
+record IsPlaced (r : Rule) (e : DirectoryEntry) (p : Option Place) : Type 0 where
   allowed : allows r e ≡ true
   short : nat_lt MAX_GEO_BYTES (len_of e) ≡ false
   place : p ≡ Some (place_in e)
 
-placed : (r : Rule) (e : Entry) (p : Option Place) → place_by r (Some e) ≡ Ok p → IsPlaced r e p
+placed : (r : Rule) (e : DirectoryEntry) (p : Option Place) → place_by r (Some e) ≡ Ok p → IsPlaced r e p
 placed r e p is = at (allows r e) refl (nat_lt MAX_GEO_BYTES (len_of e)) refl is where
   at : (a : Bool) → allows r e ≡ a → (b : Bool) → nat_lt MAX_GEO_BYTES (len_of e) ≡ b → (if not a then Err (FieldType r.tag) else if b then Err TooLarge else Ok (Some (place_in e))) ≡ Ok p → IsPlaced r e p
   at true yes_allowed false fits same = record { allowed = yes_allowed; short = fits; place = cc }
@@ -59,7 +59,7 @@ placed r e p is = at (allows r e) refl (nat_lt MAX_GEO_BYTES (len_of e)) refl is
   at false wrong b is_b same = absurd (cc)
 
 -- and what a fault tells
-refused : (r : Rule) (e : Entry) (fault : FileFault) → place_by r (Some e) ≡ Err fault
+refused : (r : Rule) (e : DirectoryEntry) (fault : FileFault) → place_by r (Some e) ≡ Err fault
     → ((allows r e ≡ false) × (fault ≡ FieldType r.tag)) ⊎ ((allows r e ≡ true) × (nat_lt MAX_GEO_BYTES (len_of e) ≡ true) × (fault ≡ TooLarge))
 refused r e fault is = at (allows r e) refl (nat_lt MAX_GEO_BYTES (len_of e)) refl is where
   at : (a : Bool) → allows r e ≡ a → (b : Bool) → nat_lt MAX_GEO_BYTES (len_of e) ≡ b → (if not a then Err (FieldType r.tag) else if b then Err TooLarge else Ok (Some (place_in e))) ≡ Err fault
@@ -68,23 +68,23 @@ refused r e fault is = at (allows r e) refl (nat_lt MAX_GEO_BYTES (len_of e)) re
   at true yes_allowed true long same = inr (yes_allowed, long, cc)
   at false wrong b is_b same = inl (wrong, cc)
 
-entry_kind : (r : Rule) (e : Entry) → allows r e ≡ true → IsKind e.kind
+entry_kind : (r : Rule) (e : DirectoryEntry) → allows r e ≡ true → IsKind e.kind
 entry_kind r e ok = kind_is r.typing e.kind (typed r e ok)
 
 -- the place of a field that is there, and of none
-geo_at : (f : List ℕ) (es : List Entry) (r : Rule) (e : Entry) → HasTable f 0 es → entry_with_tag r.tag es ≡ Some e → allows r e ≡ true → geo_place f r.tag ≡ Some (place_in e)
+geo_at : (f : List ℕ) (es : List DirectoryEntry) (r : Rule) (e : DirectoryEntry) → HasTable f 0 es → entry_with_tag r.tag es ≡ Some e → allows r e ≡ true → geo_place f r.tag ≡ Some (place_in e)
 unfolding geo_place
 geo_at f es r e has there ok =
     ap (λ o. o >>= place_of f) (field_told f 0 es r.tag has ∙ ap (option_map field_of) there) ∙ place_entry f e (has.long r.tag e there) (entry_kind r e ok)
 
-no_place : (f : List ℕ) (es : List Entry) (r : Rule) → HasTable f 0 es → entry_with_tag r.tag es ≡ None → geo_place f r.tag ≡ None
+no_place : (f : List ℕ) (es : List DirectoryEntry) (r : Rule) → HasTable f 0 es → entry_with_tag r.tag es ≡ None → geo_place f r.tag ≡ None
 unfolding geo_place
 no_place f es r has there = ap (λ o. o >>= place_of f) (field_told f 0 es r.tag has ∙ ap (option_map field_of) there)
 
-place_told : (f : List ℕ) (es : List Entry) (r : Rule) (p : Option Place) → HasTable f 0 es → place_by r (entry_with_tag r.tag es) ≡ Ok p → IsGeoFieldAt f r.tag p
+place_told : (f : List ℕ) (es : List DirectoryEntry) (r : Rule) (p : Option Place) → HasTable f 0 es → place_by r (entry_with_tag r.tag es) ≡ Ok p → IsGeoFieldAt f r.tag p
 unfolding geo_place
 place_told f es r p has is = at (entry_with_tag r.tag es) refl is where
-  at : (o : Option Entry) → entry_with_tag r.tag es ≡ o → place_by r o ≡ Ok p → IsGeoFieldAt f r.tag p
+  at : (o : Option DirectoryEntry) → entry_with_tag r.tag es ≡ o → place_by r o ≡ Ok p → IsGeoFieldAt f r.tag p
   at None there is =
       let none : None ≡ p = cc in
       subst (IsGeoFieldAt f r.tag) none (field_told f 0 es r.tag has ∙ ap (option_map field_of) there)
@@ -92,9 +92,9 @@ place_told f es r p has is = at (entry_with_tag r.tag es) refl is where
       let h = placed r e p is in
       subst (IsGeoFieldAt f r.tag) (sym h.place) (geo_at f es r e has there h.allowed)
 
-met : (es : List Entry) (r : Rule) (p : Option Place) → r.required ≡ false → place_by r (entry_with_tag r.tag es) ≡ Ok p → keeps es r ≡ true
+met : (es : List DirectoryEntry) (r : Rule) (p : Option Place) → r.required ≡ false → place_by r (entry_with_tag r.tag es) ≡ Ok p → keeps es r ≡ true
 met es r p optional is = at (entry_with_tag r.tag es) refl is where
-  at : (o : Option Entry) → entry_with_tag r.tag es ≡ o → place_by r o ≡ Ok p → keeps es r ≡ true
+  at : (o : Option DirectoryEntry) → entry_with_tag r.tag es ≡ o → place_by r o ≡ Ok p → keeps es r ≡ true
   at None there is = rw (there, optional) refl
   at (Some e) there is = rw there (placed r e p is).allowed
 
@@ -102,9 +102,9 @@ met es r p optional is = at (entry_with_tag r.tag es) refl is where
 abbrev IsLargeField : List ℕ → Rule → Type 0
 IsLargeField f rule = IsSomeAnd (geo_place f rule.tag) (λ p. nat_le p.len MAX_GEO_BYTES ≡ false)
 
-not_large : (f : List ℕ) (es : List Entry) (r : Rule) (p : Option Place) → HasTable f 0 es → place_by r (entry_with_tag r.tag es) ≡ Ok p → IsLargeField f r → ⊥
+not_large : (f : List ℕ) (es : List DirectoryEntry) (r : Rule) (p : Option Place) → HasTable f 0 es → place_by r (entry_with_tag r.tag es) ≡ Ok p → IsLargeField f r → ⊥
 not_large f es r p has is bad = at (entry_with_tag r.tag es) refl is where
-  at : (o : Option Entry) → entry_with_tag r.tag es ≡ o → place_by r o ≡ Ok p → ⊥
+  at : (o : Option DirectoryEntry) → entry_with_tag r.tag es ≡ o → place_by r o ≡ Ok p → ⊥
   at None there is = (rw (no_place f es r has there) at bad)
   at (Some e) there is =
       let h = placed r e p is in
@@ -114,13 +114,13 @@ not_large f es r p has is bad = at (entry_with_tag r.tag es) refl is where
 
 -- ---- all of them
 
-record IsGood (es : List Entry) (r : Rule) : Type 0 where
+record IsGood (es : List DirectoryEntry) (r : Rule) : Type 0 where
   place : Option Place
   is : place_by r (entry_with_tag r.tag es) ≡ Ok place
   optional : r.required ≡ false
   counts : r.count ≡ Samples → ⊥
 
-all_good : (es : List Entry) (p : GeoPlaces) → ArePlacesBy (geo_in es) p → (j : ℕ) (d : Rule) → j < length geo_profile → IsGood es (get_or geo_profile j d)
+all_good : (es : List DirectoryEntry) (p : GeoPlaces) → ArePlacesBy (geo_in es) p → (j : ℕ) (d : Rule) → j < length geo_profile → IsGood es (get_or geo_profile j d)
 all_good es p are zero d inside = record { place = p.directory; is = are.directory; optional = refl; counts = λ same. cc }
 all_good es p are (suc zero) d inside = record { place = p.doubles; is = are.doubles; optional = refl; counts = λ same. cc }
 all_good es p are (suc (suc zero)) d inside = record { place = p.ascii; is = are.ascii; optional = refl; counts = λ same. cc }
@@ -129,7 +129,7 @@ all_good es p are (suc (suc (suc (suc zero)))) d inside = record { place = p.tie
 all_good es p are (suc (suc (suc (suc (suc zero))))) d inside = record { place = p.transformation; is = are.transformation; optional = refl; counts = λ same. cc }
 all_good es p are (suc (suc (suc (suc (suc (suc j)))))) d inside = absurd (omega arith)
 
-sound : (f : List ℕ) (es : List Entry) (p : GeoPlaces) → HasTable f 0 es → ArePlacesBy (geo_in es) p → (fault : FileFault) → IsGeoFault f fault → ⊥
+sound : (f : List ℕ) (es : List DirectoryEntry) (p : GeoPlaces) → HasTable f 0 es → ArePlacesBy (geo_in es) p → (fault : FileFault) → IsGeoFault f fault → ⊥
 sound f es p has are (FieldType tag) (j, r, inside, is, bad) =
     let P : Rule → Type 0 = λ x. IsGood es x in
     let good : IsGood es r = subst P is (all_good es p are j r inside) in
@@ -157,17 +157,17 @@ places_told f g p has by =
 
 -- ---- what is wrong
 
-fault_at : (f : List ℕ) (es : List Entry) (j : ℕ) (fault : FileFault) → j < length geo_profile → HasTable f 0 es → place_by (geo_rule j) (entry_with_tag (geo_rule j).tag es) ≡ Err fault → IsGeoFault f fault
+fault_at : (f : List ℕ) (es : List DirectoryEntry) (j : ℕ) (fault : FileFault) → j < length geo_profile → HasTable f 0 es → place_by (geo_rule j) (entry_with_tag (geo_rule j).tag es) ≡ Err fault → IsGeoFault f fault
 fault_at f es j fault inside has is = at (entry_with_tag (geo_rule j).tag es) refl is where
-  wrong : (e : Entry) → entry_with_tag (geo_rule j).tag es ≡ Some e → allows (geo_rule j) e ≡ false → IsRuleFault f 0 (geo_rule j) (FieldType (geo_rule j).tag)
+  wrong : (e : DirectoryEntry) → entry_with_tag (geo_rule j).tag es ≡ Some e → allows (geo_rule j) e ≡ false → IsRuleFault f 0 (geo_rule j) (FieldType (geo_rule j).tag)
   wrong e there bad = rule_fault f 0 es (geo_rule j) (FieldType (geo_rule j).tag) has (refl, some_and_from (entry_with_tag (geo_rule j).tag es) (λ x. allows (geo_rule j) x ≡ false) e there bad)
 
-  large : (e : Entry) → entry_with_tag (geo_rule j).tag es ≡ Some e → allows (geo_rule j) e ≡ true → nat_lt MAX_GEO_BYTES (len_of e) ≡ true → IsLargeField f (geo_rule j)
+  large : (e : DirectoryEntry) → entry_with_tag (geo_rule j).tag es ≡ Some e → allows (geo_rule j) e ≡ true → nat_lt MAX_GEO_BYTES (len_of e) ≡ true → IsLargeField f (geo_rule j)
   large e there ok long =
       let past : nat_le (len_of e) MAX_GEO_BYTES ≡ false = (let h = ltb-true MAX_GEO_BYTES (len_of e) long in grind (arith, nat_tests)) in
       some_and_from (geo_place f (geo_rule j).tag) (λ (q : Place). nat_le q.len MAX_GEO_BYTES ≡ false) (place_in e) (geo_at f es (geo_rule j) e has there ok) past
 
-  at : (o : Option Entry) → entry_with_tag (geo_rule j).tag es ≡ o → place_by (geo_rule j) o ≡ Err fault → IsGeoFault f fault
+  at : (o : Option DirectoryEntry) → entry_with_tag (geo_rule j).tag es ≡ o → place_by (geo_rule j) o ≡ Err fault → IsGeoFault f fault
   at None there is = absurd (cc)
   at (Some e) there is = elim (refused (geo_rule j) e fault is) [
     | inl h ↦ subst (IsGeoFault f) (sym h.1) (j, geo_rule j, inside, get_or_default geo_profile j _ subfile_rule inside, wrong e there h.0)
@@ -176,7 +176,7 @@ fault_at f es j fault inside has is = at (entry_with_tag (geo_rule j).tag es) re
 
 pub fault_told : (f : List ℕ) (g : GeoEntries) (fault : FileFault) → HasGeo f g → IsFaultBy g fault → IsGeoFault f fault
 fault_told f g fault has by = at (let P : GeoEntries → Type 0 = λ x. IsFaultBy x fault in subst P has.are by) where
-  es : List Entry
+  es : List DirectoryEntry
   es = has.entries
 
   at : IsFaultBy (geo_in es) fault → IsGeoFault f fault
@@ -195,7 +195,7 @@ size_some n (inr (inl e)) = rw e (omega arith)
 size_some n (inr (inr (inl e))) = rw e (omega arith)
 size_some n (inr (inr (inr e))) = rw e (omega arith)
 
-pub typed_by : (r : Rule) (k : Kind) (o : Option Entry) (p : Option Place) → ((n : ℕ) → has_typing r.typing n ≡ true → kind_in n ≡ k) → ((n : ℕ) → counts_one r.count n ≡ true → 0 < n)
+pub typed_by : (r : Rule) (k : Kind) (o : Option DirectoryEntry) (p : Option Place) → ((n : ℕ) → has_typing r.typing n ≡ true → kind_in n ≡ k) → ((n : ℕ) → counts_one r.count n ≡ true → 0 < n)
     → place_by r o ≡ Ok p → IfSome p (λ x. x.first < 2 ^ 33) → IsGeoPlace k p
 typed_by r k None p kind some is near = let P : Option Place → Type 0 = λ x. IsGeoPlace k x in let none : None ≡ p = cc in subst P none tt
 typed_by r k (Some e) p kind some is near =

@@ -5,7 +5,7 @@ use Rattle.std.proofs.lemmas.List.{length-take, length-drop}
 use Rattle.tiff_dir.specs.declared.order.Order.{Order}
 use Rattle.tiff_dir.specs.Number.{number_in}
 use Rattle.tiff_dir.specs.File.{order_of, number}
-use Rattle.tiff_dir.specs.Needs.{bytes_in}
+use Rattle.extents.specs.Extent.{bytes_in}
 use Rattle.tiff_dir.specs.Table.{entries_from}
 use Rattle.tiff_dir.proofs.Numbers.{number_in-drop, number_in-take}
 

@@ -6,12 +6,12 @@ use Rattle.std.proofs.lemmas.Bool.{and_parts, and_cases, eqb-true, lt-ltb, le-lt
 use Rattle.tiff_dir.specs.declared.order.Order.{Order}
 use Rattle.tiff_dir.specs.declared.stage.Pending.{Pending}
 use Rattle.tiff_dir.specs.declared.stage.Stage.TheVariants as stages
-use Rattle.tiff_dir.specs.declared.stage.Step.{Step}
+use Rattle.tiff_dir.specs.declared.stage.WalkStep.{WalkStep}
 use Rattle.tiff_dir.specs.Number.{number_in}
 use Rattle.tiff_dir.specs.File.{order_of, value}
 use Rattle.tiff_dir.specs.Fault.{IsUnsupported}
 use Rattle.tiff_dir.specs.Profile.{is_depth, accepts}
-use Rattle.tiff_dir.specs.Needs.{bytes_in}
+use Rattle.extents.specs.Extent.{bytes_in}
 use Rattle.tiff_dir.specs.Stage.{all_are, depth_in, three_shorts, HasShorts, HasBits, IsPending, IsSupported, StepsOn, EndsDirectory}
 use Rattle.tiff_dir.proofs.Chain.{some_and_from}
 use Rattle.tiff_dir.proofs.Parts.{number_part}
@@ -105,8 +105,8 @@ pub bits_to_formats : (f : List ℕ) (p : Pending) (first next : ℕ) (b : Optio
 bits_to_formats f p first next b pending shorts bits =
     steps_same f (stages.Bits p first (Some next)) (stages.Formats p next b) (three_shorts first) (pending, shorts, bits) refl refl refl
 
-pub bits_to_end : (f : List ℕ) (p : Pending) (first : ℕ) (step : Step) → EndsDirectory f p.index step → StepsOn f (stages.Bits p first None) step
+pub bits_to_end : (f : List ℕ) (p : Pending) (first : ℕ) (step : WalkStep) → EndsDirectory f p.index step → StepsOn f (stages.Bits p first None) step
 bits_to_end f p first step ends = ends_on f (stages.Bits p first None) p.index (three_shorts first) step refl refl refl ends
 
-pub formats_to_end : (f : List ℕ) (p : Pending) (first : ℕ) (b : Option ℕ) (step : Step) → EndsDirectory f p.index step → StepsOn f (stages.Formats p first b) step
+pub formats_to_end : (f : List ℕ) (p : Pending) (first : ℕ) (b : Option ℕ) (step : WalkStep) → EndsDirectory f p.index step → StepsOn f (stages.Formats p first b) step
 formats_to_end f p first b step ends = ends_on f (stages.Formats p first b) p.index (three_shorts first) step refl refl refl ends

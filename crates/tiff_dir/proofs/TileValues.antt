@@ -1,4 +1,5 @@
 -- The values of a level's arrays, by their bytes.
+use Rattle.tiff_dir.specs.declared.field_values.TheConstants.{COMPRESSION_NONE, COMPRESSION_PACKBITS}
 use Rattle.tiff_dir.specs.declared.tags.TheConstants.{BITS_PER_SAMPLE, COMPRESSION, IMAGE_LENGTH, IMAGE_WIDTH, SAMPLES_PER_PIXEL, TILE_BYTE_COUNTS, TILE_LENGTH, TILE_OFFSETS, TILE_WIDTH}
 use Rattle.std.proofs.Common.{◌≡◌, ℕ, ◌+◌, ◌*◌, ◌<◌, ◌≤◌, ◌==◌, inl, inr, Bool, true, false, List, length, Option, Some, None, if◌then◌else◌, refl, ap, subst, ◌∙◌, arith}
 use Rattle.std.proofs.Math.Nat.{mul-le-mul_right}
@@ -9,7 +10,8 @@ use Rattle.tiff_dir.specs.declared.order.Order.{Order}
 use Rattle.tiff_dir.specs.declared.level.Level.{Level}
 use Rattle.tiff_dir.specs.declared.level.Place.{Place}
 use Rattle.tiff_dir.specs.declared.level.Compression.{Compression}
-use Rattle.tiff_dir.specs.declared.level.Compression.TheVariants.{Plain, PackBits}
+use Rattle.tiff_dir.specs.declared.level.Compression.TheVariants.{Plain, Packed}
+use Rattle.tiff_dir.specs.declared.level.Codec.TheVariants.{PackBits}
 use Rattle.tiff_dir.specs.declared.level.Kind.{Kind}
 use Rattle.tiff_dir.specs.declared.level.Kind.TheVariants as kind
 use Rattle.tiff_dir.specs.Number.{number_in}
@@ -99,20 +101,20 @@ grid_of_level : (f : List ℕ) (n k : ℕ) (l : Level) → level_directory f n �
 unfolding level_grid
 grid_of_level f n k l there told = rw there told
 
-pub plain_number : (o : Option ℕ) → (o >>= compression_of) ≡ Some Plain → o ≡ Some 1
+pub plain_number : (o : Option ℕ) → (o >>= compression_of) ≡ Some Plain → o ≡ Some COMPRESSION_NONE
 plain_number None is = absurd (none-some Plain is)
-plain_number (Some n) is = elim (cases_Bool (n == 1)) [
-  | inl one ↦ ap Some (eqb-true n 1 one)
-  | inr other ↦ elim (cases_Bool (n == 32773)) [
-    | inl packed ↦ (let wrong : Some PackBits ≡ Some Plain = (rw (other, packed) at is) in absurd (other_kind (same_Some PackBits Plain wrong)))
+plain_number (Some n) is = elim (cases_Bool (n == COMPRESSION_NONE)) [
+  | inl one ↦ ap Some (eqb-true n COMPRESSION_NONE one)
+  | inr other ↦ elim (cases_Bool (n == COMPRESSION_PACKBITS)) [
+    | inl packed ↦ (let wrong : Some (Packed PackBits) ≡ Some Plain = (rw (other, packed) at is) in absurd (other_kind (same_Some (Packed PackBits) Plain wrong)))
     | inr none ↦ (let wrong : None ≡ Some Plain = (rw (other, none) at is) in absurd (none-some Plain wrong))
   ]
 ] where
   is_plain : Compression → Bool
   is_plain Plain = true
-  is_plain PackBits = false
+  is_plain (Packed codec) = false
 
-  other_kind : PackBits ≡ Plain → ⊥
+  other_kind : Packed PackBits ≡ Plain → ⊥
   other_kind same = false≢true (ap is_plain same)
 
 compression_of_level : (f : List ℕ) (n k : ℕ) (l : Level) → level_directory f n ≡ Some k → (value f k COMPRESSION 0 >>= compression_of) ≡ Some l.compression → (level_value f n COMPRESSION 0 >>= compression_of) ≡ Some l.compression

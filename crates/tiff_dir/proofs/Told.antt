@@ -15,7 +15,7 @@ use Rattle.tiff_dir.specs.declared.order.Order.{Order}
 use Rattle.tiff_dir.specs.declared.level.Level.{Level}
 use Rattle.tiff_dir.specs.declared.stage.Stage.{Stage}
 use Rattle.tiff_dir.specs.declared.stage.Stage.TheVariants as stages
-use Rattle.tiff_dir.specs.declared.stage.Step.{Step}
+use Rattle.tiff_dir.specs.declared.stage.WalkStep.{WalkStep}
 use Rattle.tiff_dir.specs.declared.fault.FileFault.{FileFault}
 use Rattle.tiff_dir.specs.declared.fault.FileFault.TheVariants.{Header, PastEnd, TooManyDirs}
 use Rattle.tiff_dir.specs.Query.{array_range}
@@ -24,14 +24,16 @@ use Rattle.tiff_dir.proofs.Ends.{layout_parts}
 use Rattle.tiff_dir.specs.File.{◌>>=◌, Field, field, order_of, number, has_directory, directories}
 use Rattle.tiff_dir.specs.Described.{described, layout_of, AreLevels}
 use Rattle.tiff_dir.specs.Level.{Layout, is_level, place_of, level_directories, previous_level, layout_at, layouts, level_layout, level_directory}
-use Rattle.tiff_dir.specs.Needs.{IsEndOf, Extent, ends_past, extent_of_place, field_range, needs_of_directories, outside_ranges}
+use Rattle.extents.specs.Extent.{Extent, ends_past}
+use Rattle.tiff_dir.specs.Needs.{IsEndOf, extent_of_place, field_range, needs_of_directories, outside_ranges}
 use Rattle.tiff_dir.specs.Fault.{IsFaultOfDirectories}
 use Rattle.tiff_dir.specs.Stage.{range_of, index_of, still, three_shorts, ranges_from, is_past_first, is_first_table, layouts_below, AgreesAt, IsBefore, IsOver, StepsOn}
 use Rattle.tiff_dir.specs.declared.geo.GeoEntries.{GeoEntries}
 use Rattle.tiff_dir.specs.GeoEntries.{AreNear}
 use Rattle.std.proofs.lemmas.List.{take-append-drop}
 use Rattle.tiff_dir.specs.WalkState.{WalkState, HasGeo}
-use Rattle.tiff_dir.specs.Walk.{IsWanted, WalkAgrees, given_of, wanted, to_come, bytes_in, IsWantedOf, HasEnded, IfFile}
+use Rattle.extents.specs.Extent.{bytes_in}
+use Rattle.tiff_dir.specs.Walk.{IsWanted, WalkAgrees, given_of, wanted, to_come, IsWantedOf, HasEnded, IfFile}
 use Rattle.tiff_dir.proofs.Chain.{some_and_at, count_wanted, none_after}
 use Rattle.tiff_dir.proofs.Parts.{part_inside}
 use Rattle.tiff_dir.proofs.Ranges.{drop_next, filter_none, filter_all, range_split, last_or-map}
@@ -47,7 +49,7 @@ come_new f w none = rw none refl
 -- the range that is wanted is the first that is still needed
 first_still : (f : List ℕ) (stage : Stage) (r : Extent) → AgreesAt f stage → range_of stage ≡ Some r → (rest : List Extent) × (still f stage ≡ r ∷ rest)
 first_still f stages.Header r here e = (ranges_from f 0, ap (λ (x : Extent). x ∷ ranges_from f 0) (same_Some _ _ e))
-first_still f (stages.Count o k at) r here e = let (rest, is) = count_wanted f o k at here in (rest, is ∙ ap (λ (x : Extent). x ∷ rest) (same_Some _ _ e))
+first_still f (stages.ValueCount o k at) r here e = let (rest, is) = count_wanted f o k at here in (rest, is ∙ ap (λ (x : Extent). x ∷ rest) (same_Some _ _ e))
 first_still f (stages.Table o k at n) r here e =
     let rest : List Extent = outside_ranges f k ++ ranges_from f (suc k) in (rest, ap (λ (x : Extent). x ∷ rest) (same_Some _ _ e))
 first_still f (stages.Bits p first formats) r here e =
@@ -69,7 +71,7 @@ first_come w f told = rw told.come (at w.stage told.here (range_of w.stage) refl
   at stage here None is = ended stage is where
     ended : (stage : Stage) → range_of stage ≡ None → slice_get (still f stage) 0 ≡ range_of stage
     ended stages.Header is = absurd (none-some _ (sym is))
-    ended (stages.Count o k a) is = absurd (none-some _ (sym is))
+    ended (stages.ValueCount o k a) is = absurd (none-some _ (sym is))
     ended (stages.Table o k a n) is = absurd (none-some _ (sym is))
     ended (stages.Bits p first formats) is = absurd (none-some _ (sym is))
     ended (stages.Formats p first bits) is = absurd (none-some _ (sym is))
@@ -88,7 +90,7 @@ unfolding wanted
 wanted_is w n is = at w.stage is where
   at : (stage : Stage) → IsSomeAnd (range_of stage) (λ r. n ≡ r.len) → (r : Extent) × (range_of stage ≡ Some r) × (n ≡ r.len) × (0 < n)
   at stages.Header is = (_, refl, is, omega arith)
-  at (stages.Count o k a) is = (_, refl, is, omega arith)
+  at (stages.ValueCount o k a) is = (_, refl, is, omega arith)
   at (stages.Table o k a e) is = (_, refl, is, omega arith)
   at (stages.Bits p first formats) is = (_, refl, is, omega arith)
   at (stages.Formats p first bits) is = (_, refl, is, omega arith)
@@ -119,7 +121,7 @@ geo_next f w stage geo told first taken same past = elim (cases_Bool (is_first_t
   ]
 ]
 
-pub told_next : (f bytes : List ℕ) (w : WalkState) (step : Step) (r : Extent) (ls : List Level) (geo : GeoEntries) → WalkAgrees w f → wanted w ≡ Some r → bytes ≡ bytes_in f r → length bytes ≡ r.len → 0 < r.len → StepsOn f w.stage step
+pub told_next : (f bytes : List ℕ) (w : WalkState) (step : WalkStep) (r : Extent) (ls : List Level) (geo : GeoEntries) → WalkAgrees w f → wanted w ≡ Some r → bytes ≡ bytes_in f r → length bytes ≡ r.len → 0 < r.len → StepsOn f w.stage step
     → ls ≡ w.levels ++ option_to_list step.level → (is_past_first step.stage ≡ true → HasGeo f geo) → WalkAgrees (record { stage = step.stage; levels = ls; geo = geo; given = w.given + 1 }) f
 unfolding WalkAgrees wanted
 told_next f bytes w step r ls geo told is part len some on same has =
@@ -157,7 +159,7 @@ here_is f w told = told.here
 
 ended_over : (f : List ℕ) (stage : Stage) → AgreesAt f stage → range_of stage ≡ None → (o : Order) × (k : ℕ) × IsOver f o k × (index_of stage ≡ k) × (still f stage ≡ [])
 ended_over f stages.Header here is = absurd (none-some _ (sym is))
-ended_over f (stages.Count o k a) here is = absurd (none-some _ (sym is))
+ended_over f (stages.ValueCount o k a) here is = absurd (none-some _ (sym is))
 ended_over f (stages.Table o k a n) here is = absurd (none-some _ (sym is))
 ended_over f (stages.Bits p first formats) here is = absurd (none-some _ (sym is))
 ended_over f (stages.Formats p first bits) here is = absurd (none-some _ (sym is))
@@ -234,7 +236,7 @@ if_memory (Err e) P is = let G : WalkError → Type 0 = λ x. IfFile (Err x) P i
 
 -- The bounds
 
-pub so_far : (stage : Stage) (levels ls : List Level) (before geo : GeoEntries) (given : ℕ) (step : Step) → IsSoFar stage levels before given → IsNext stage (given + 1) step → ls ≡ levels ++ option_to_list step.level → AreNear geo → IsSoFar step.stage ls geo (given + 1)
+pub so_far : (stage : Stage) (levels ls : List Level) (before geo : GeoEntries) (given : ℕ) (step : WalkStep) → IsSoFar stage levels before given → IsNext stage (given + 1) step → ls ≡ levels ++ option_to_list step.level → AreNear geo → IsSoFar step.stage ls geo (given + 1)
 so_far stage levels ls before geo given step is next same near = record {
   kept = next.kept;
   some = λ h. rw same (some_level (next.some h));
@@ -299,7 +301,7 @@ wanted_as w = refl
 
 pub ended_stage : (stage : Stage) → range_of stage ≡ None → (o : Order) × (k : ℕ) × (stage ≡ stages.Ended o k)
 ended_stage stages.Header is = absurd (none-some _ (sym is))
-ended_stage (stages.Count o k a) is = absurd (none-some _ (sym is))
+ended_stage (stages.ValueCount o k a) is = absurd (none-some _ (sym is))
 ended_stage (stages.Table o k a n) is = absurd (none-some _ (sym is))
 ended_stage (stages.Bits p first formats) is = absurd (none-some _ (sym is))
 ended_stage (stages.Formats p first bits) is = absurd (none-some _ (sym is))

@@ -6,19 +6,24 @@ use Rattle.std.proofs.lemmas.Option.{same_Some}
 use Rattle.std.proofs.lemmas.Grind.{same_number_lists}
 use Rattle.tiff_dir.specs.declared.order.Order.{Order}
 use Rattle.tiff_dir.specs.declared.level.Compression.{Compression}
-use Rattle.tiff_dir.specs.declared.level.Compression.TheVariants.{Plain, PackBits}
+use Rattle.tiff_dir.specs.declared.level.Compression.TheVariants.{Plain, Packed}
+use Rattle.tiff_dir.specs.declared.level.Codec.{Codec}
+use Rattle.tiff_dir.specs.declared.level.Codec.TheVariants.{PackBits}
 use Rattle.tiff_dir.specs.declared.query.Query.{Query}
 use Rattle.tiff_dir.specs.File.{order_of}
 use Rattle.tiff_dir.specs.Level.{Layout, level_layout, plain_row, plain_size}
 use Rattle.tiff_dir.specs.Query.{Rectangle, rectangle, segment}
-use Rattle.tiff_dir.specs.Window.{IsUnpackedBy, IsUnpacked, tile_at, place_in_tile, sample_in, IsSample, HasSamples}
+use Rattle.tiff_dir.specs.Window.{PacksBy, IsUnpackedBy, IsUnpacked, tile_at, place_in_tile, sample_in, IsSample, HasSamples}
 use Rattle.tiff_dir.specs.Faulty.{IsWindow}
 use Rattle.tiff_dir.proofs.Chain.{some_and_at}
 use Rattle.tiff_dir.proofs.PacketLemmas.{packs_once}
 
+packs_by_once : (codec : Codec) (row : ℕ) (bytes out out' : List ℕ) → PacksBy codec row bytes out → PacksBy codec row bytes out' → out ≡ out'
+packs_by_once PackBits row bytes out out' p q = packs_once row bytes out out' p q
+
 unpacked_once : (c : Compression) (row size : ℕ) (bytes out out' : List ℕ) → IsUnpackedBy c row size bytes out → IsUnpackedBy c row size bytes out' → out ≡ out'
 unpacked_once Plain row size bytes out out' p q = p ∙ sym q
-unpacked_once PackBits row size bytes out out' p q = packs_once row bytes out out' p.1 q.1
+unpacked_once (Packed codec) row size bytes out out' p q = packs_by_once codec row bytes out out' p.1 q.1
 
 -- a sample, where its layout is known
 record IsSampleIn (f : List ℕ) (n : ℕ) (l : Layout) (x y c v : ℕ) : Type 0 where

@@ -5,14 +5,15 @@ use Rattle.tiff_dir.specs.declared.limits.TheConstants.{MAX_DIRECTORIES, MAX_TIL
 use Rattle.std.specs.Prelude.{◌≡◌, ◌≢◌, ℕ, ◌%◌, ◌<◌, ◌≤◌, ◌⊎◌, Bool, true, false, ◌&&◌, ◌||◌, nat_lt, nat_le, ◌==◌, if◌then◌else◌, List, [], ◌∷◌, length, Option, Some, None, IsSomeAnd}
 use Rattle.std.specs.List.{Any, list_any}
 use Rattle.tiff_dir.specs.declared.rule.Rule.{Rule}
-use Rattle.tiff_dir.specs.declared.rule.Count.{Count}
-use Rattle.tiff_dir.specs.declared.rule.Count.TheVariants.{One, Samples, Tiles, Exactly, Multiple}
+use Rattle.tiff_dir.specs.declared.rule.ValueCount.{ValueCount}
+use Rattle.tiff_dir.specs.declared.rule.ValueCount.TheVariants.{One, Samples, Tiles, Exactly, Multiple}
 use Rattle.tiff_dir.specs.declared.fault.FileFault.{FileFault}
 use Rattle.tiff_dir.specs.declared.fault.FileFault.TheVariants.{Header, PastEnd, DirPlace, DirCount, TagOrder, TooManyDirs, Missing, FieldType, Unsupported, LevelShape, TileArray, TileSize}
 use Rattle.tiff_dir.specs.File.{◌>>=◌, order_of, number, directory, has_directory, entry_count, Field, fields, has_all_tags, field, value}
 use Rattle.tiff_dir.specs.Profile.{subfile_rule, profile, has_typing, is_multiple, accepts, samples_fit, planes_fit, is_tile_side}
 use Rattle.tiff_dir.specs.Level.{is_level, previous_level, grid_at, plain_size_at, tile_total}
-use Rattle.tiff_dir.specs.Needs.{is_entry_count, ends_past, needs_of_directories}
+use Rattle.extents.specs.Extent.{ends_past}
+use Rattle.tiff_dir.specs.Needs.{is_entry_count, needs_of_directories}
 
 -- a directory begins at an even place of at least 8
 abbrev pub is_directory_place : ℕ → Bool
@@ -29,7 +30,7 @@ abbrev pub IsMisfit : (ℕ → ℕ → Bool) → Option ℕ → Option ℕ → T
 IsMisfit fits a b = IsSomeAnd a (λ x. IsSomeAnd b (λ y. fits x y ≡ false))
 
 -- a field has another number of values than the profile says
-abbrev pub IsMiscounted : List ℕ → ℕ → Count → Field → Type 0
+abbrev pub IsMiscounted : List ℕ → ℕ → ValueCount → Field → Type 0
 IsMiscounted f k One e = IsSomeAnd e.count (λ count. (count == 1) ≡ false)
 IsMiscounted f k Samples e = IsMisfit (λ count samples. count == samples) e.count (value f k SAMPLES_PER_PIXEL 0)
 IsMiscounted f k Tiles e = ⊥

@@ -1,5 +1,6 @@
 -- What is wrong with a file for a query, and what its window is.
 use Rattle.tiff_dir.specs.declared.tags.TheConstants.{COMPRESSION, TILE_BYTE_COUNTS}
+use Rattle.tiff_dir.specs.declared.field_values.TheConstants.{COMPRESSION_NONE}
 use Rattle.tiff_dir.specs.declared.limits.TheConstants.{MAX_TILE_BYTES}
 use Rattle.std.specs.Prelude.{◌≡◌, ℕ, ◌⊎◌, Bool, true, false, ◌&&◌, nat_lt, nat_le, ◌==◌, List, ◌++◌, Some, IsSomeAnd}
 use Rattle.std.specs.List.{Any, flat_map, list_any}
@@ -10,7 +11,7 @@ use Rattle.tiff_dir.specs.declared.fault.FileFault.{FileFault}
 use Rattle.tiff_dir.specs.declared.fault.FileFault.TheVariants.{PastEnd, TileSize, Packet, Outside, TooLarge}
 use Rattle.tiff_dir.specs.File.{◌>>=◌}
 use Rattle.tiff_dir.specs.Level.{level_directory, level_layout, level_value, plain_size_at}
-use Rattle.tiff_dir.specs.Needs.{ends_past}
+use Rattle.extents.specs.Extent.{ends_past}
 use Rattle.tiff_dir.specs.Geo.{IsGeoFault, geo_ranges, key_source}
 use Rattle.tiff_dir.specs.Keys.{IsFaultOfKeys}
 use Rattle.tiff_dir.specs.Fault.{IsFaultOfDirectories}
@@ -28,7 +29,7 @@ is_byte_count n = nat_lt 0 n && nat_le n MAX_TILE_BYTES
 -- a tile that isn't compressed has another number of bytes than its samples (Compression, section 8)
 abbrev pub IsNotPlainSize : List ℕ → ℕ → ℕ → Type 0
 IsNotPlainSize f n count =
-    (level_value f n COMPRESSION 0 ≡ Some 1) × IsSomeAnd (level_directory f n >>= plain_size_at f) (λ s. (count == s) ≡ false)
+    (level_value f n COMPRESSION 0 ≡ Some COMPRESSION_NONE) × IsSomeAnd (level_directory f n >>= plain_size_at f) (λ s. (count == s) ≡ false)
 
 -- the byte count of a tile of the window is wrong
 abbrev pub HasBadTile : List ℕ → Query → Type 0

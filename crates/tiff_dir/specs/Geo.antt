@@ -12,7 +12,8 @@ use Rattle.tiff_dir.specs.declared.fault.FileFault.TheVariants.{FieldType, TooLa
 use Rattle.tiff_dir.specs.File.{◌>>=◌, Field, has_all_tags, field, value}
 use Rattle.tiff_dir.specs.Profile.{geo_profile}
 use Rattle.tiff_dir.specs.Level.{place_of}
-use Rattle.tiff_dir.specs.Needs.{Extent, field_range}
+use Rattle.extents.specs.Extent.{Extent}
+use Rattle.tiff_dir.specs.Needs.{field_range}
 use Rattle.tiff_dir.specs.Fault.{IsRuleFault}
 use Rattle.tiff_dir.specs.Keys.{KeySource}
 

@@ -2,7 +2,7 @@
 use Rattle.tiff_dir.specs.declared.tags.TheConstants.{GEO_ASCII_PARAMS, GEO_DOUBLE_PARAMS, GEO_KEY_DIRECTORY, MODEL_PIXEL_SCALE, MODEL_TIEPOINT, MODEL_TRANSFORMATION}
 use Rattle.tiff_dir.specs.declared.limits.TheConstants.{MAX_GEO_BYTES}
 use Rattle.std.specs.Prelude.{◌≡◌, ◌+◌, ◌<◌, ◌^◌, ◌⊎◌, ⊤, not, nat_lt, if◌then◌else◌, List, Option, Some, None, Result, Ok, Err}
-use Rattle.tiff_dir.specs.declared.table.Entry.{Entry}
+use Rattle.tiff_dir.specs.declared.table.DirectoryEntry.{DirectoryEntry}
 use Rattle.tiff_dir.specs.declared.geo.GeoEntries.{GeoEntries}
 use Rattle.tiff_dir.specs.declared.geo.GeoPlaces.{GeoPlaces}
 use Rattle.tiff_dir.specs.declared.level.Place.{Place}
@@ -13,7 +13,7 @@ use Rattle.tiff_dir.specs.Profile.{geo_rule}
 use Rattle.tiff_dir.specs.Table.{allows, entry_with_tag, len_of, place_in}
 
 -- those among the entries of a table
-abbrev pub geo_in : List Entry → GeoEntries
+abbrev pub geo_in : List DirectoryEntry → GeoEntries
 geo_in es = record {
   directory = entry_with_tag GEO_KEY_DIRECTORY es;
   doubles = entry_with_tag GEO_DOUBLE_PARAMS es;
@@ -24,7 +24,7 @@ geo_in es = record {
 }
 
 -- where the values stand of a rule's entry
-abbrev pub place_by : Rule → Option Entry → Result (Option Place) FileFault
+abbrev pub place_by : Rule → Option DirectoryEntry → Result (Option Place) FileFault
 place_by r None = Ok None
 place_by r (Some e) =
     if not (allows r e) then Err (FieldType r.tag)
@@ -49,7 +49,7 @@ IsFaultBy g fault =
     ⊎ (place_by (geo_rule 5) g.transformation ≡ Err fault)))))
 
 -- the place behind an entry's first eight bytes has 33 bits
-abbrev pub IsNear : Option Entry → Type 0
+abbrev pub IsNear : Option DirectoryEntry → Type 0
 IsNear None = ⊤
 IsNear (Some e) = e.place + 8 < 2 ^ 33
 

@@ -1,11 +1,13 @@
 -- The levels of a file: its image and the reduced-resolution images of it (TIFF 6.0, sections 8 and 15; OGC 21-026).
 use Rattle.tiff_dir.specs.declared.tags.TheConstants.{BITS_PER_SAMPLE, COMPRESSION, IMAGE_LENGTH, IMAGE_WIDTH, NEW_SUBFILE_TYPE, SAMPLES_PER_PIXEL, TILE_BYTE_COUNTS, TILE_LENGTH, TILE_OFFSETS, TILE_WIDTH}
+use Rattle.tiff_dir.specs.declared.field_values.TheConstants.{COMPRESSION_NONE, COMPRESSION_PACKBITS}
 use Rattle.std.specs.Prelude.{ℕ, ◌*◌, Bool, false, ◌||◌, ◌==◌, if◌then◌else◌, List, map, length, slice_get, Option, Some, None}
 use Rattle.std.specs.Option.{option_map_or}
 use Rattle.std.specs.List.{filter, last_or, range_with_len}
 use Rattle.tiff_dir.specs.declared.level.Place.{Place}
 use Rattle.tiff_dir.specs.declared.level.Compression.{Compression}
-use Rattle.tiff_dir.specs.declared.level.Compression.TheVariants.{Plain, PackBits}
+use Rattle.tiff_dir.specs.declared.level.Compression.TheVariants.{Plain, Packed}
+use Rattle.tiff_dir.specs.declared.level.Codec.TheVariants.{PackBits}
 use Rattle.tiff_dir.specs.File.{◌>>=◌, Field, field, kind_of, size_of, values_at, value, directories}
 use Rattle.tiff_dir.specs.Profile.{is_depth, sample_bytes, tile_bytes, tiles_along}
 
@@ -29,8 +31,11 @@ place_of f e = do
   first ← values_at f e (count * size_of kind)
   Some (record { first = first; len = count * size_of kind; count = count; kind = kind })
 
+-- the compression that a number of the field names (section 8)
 abbrev pub compression_of : ℕ → Option Compression
-compression_of v = if v == 1 then Some Plain else if v == 32773 then Some PackBits else None
+compression_of v =
+    if v == COMPRESSION_NONE then Some Plain
+    else if v == COMPRESSION_PACKBITS then Some (Packed PackBits) else None
 
 -- how a level is cut into tiles: its sides and the tiles', in pixels
 pub record Grid : Type 0 where

@@ -8,7 +8,6 @@ pub mod Keys
 pub mod Geo
 pub mod FaultNumber
 pub mod Packets
-pub mod Block
 pub mod Query
 pub mod Window
 pub mod Faulty

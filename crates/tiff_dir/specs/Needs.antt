@@ -1,24 +1,13 @@
 -- The bytes of a file that its reader needs: those of its directories, which every query needs.
 use Rattle.tiff_dir.specs.declared.tags.TheConstants.{BITS_PER_SAMPLE, SAMPLE_FORMAT}
 use Rattle.tiff_dir.specs.declared.limits.TheConstants.{MAX_ENTRIES}
-use Rattle.std.specs.Prelude.{◌≡◌, ℕ, ◌+◌, ◌*◌, Bool, ◌&&◌, nat_lt, nat_le, if◌then◌else◌, List, [], ◌∷◌, ◌++◌, length, slice_range, Option, Some, None}
+use Rattle.std.specs.Prelude.{◌≡◌, ℕ, ◌+◌, ◌*◌, Bool, ◌&&◌, nat_lt, nat_le, if◌then◌else◌, List, [], ◌∷◌, ◌++◌, Option, Some, None}
 use Rattle.std.specs.List.{flat_map}
 use Rattle.std.specs.Option.{option_to_list}
+use Rattle.extents.specs.Extent.{Extent}
 use Rattle.tiff_dir.specs.declared.level.Place.{Place}
 use Rattle.tiff_dir.specs.File.{◌>>=◌, directory, directories, entry_count, field}
 use Rattle.tiff_dir.specs.Level.{is_level, place_of}
-
--- len bytes from first
-pub record Extent : Type 0 where
-  pub first : ℕ
-  pub len : ℕ
-
--- the bytes of the file in a range
-abbrev pub bytes_in : List ℕ → Extent → List ℕ
-bytes_in f r = slice_range f r.first (r.first + r.len)
-
-abbrev pub ends_past : List ℕ → Extent → Bool
-ends_past f r = nat_lt (length f) (r.first + r.len)
 
 -- a directory has 1 to 256 entries
 abbrev pub is_entry_count : ℕ → Bool

@@ -1,9 +1,10 @@
 -- The fields of a level in this project's profile of tiled TIFF (TIFF 6.0, sections 8, 15 and 19).
 use Rattle.tiff_dir.specs.declared.tags.TheConstants.{BITS_PER_SAMPLE, COMPRESSION, GEO_ASCII_PARAMS, GEO_DOUBLE_PARAMS, GEO_KEY_DIRECTORY, IMAGE_LENGTH, IMAGE_WIDTH, MODEL_PIXEL_SCALE, MODEL_TIEPOINT, MODEL_TRANSFORMATION, NEW_SUBFILE_TYPE, PHOTOMETRIC_INTERPRETATION, PLANAR_CONFIGURATION, SAMPLES_PER_PIXEL, SAMPLE_FORMAT, TILE_BYTE_COUNTS, TILE_LENGTH, TILE_OFFSETS, TILE_WIDTH}
+use Rattle.tiff_dir.specs.declared.field_values.TheConstants.{BLACK_IS_ZERO, CHUNKY, COMPRESSION_NONE, COMPRESSION_PACKBITS, PLANAR, RGB, UNSIGNED_INTEGER}
 use Rattle.std.specs.Prelude.{ℕ, ◌+◌, ◌-◌, ◌*◌, ◌/◌, ◌%◌, Bool, true, false, ◌&&◌, ◌||◌, ◌==◌, nat_lt, if◌then◌else◌, List, [], ◌∷◌, get_or}
 use Rattle.tiff_dir.specs.declared.rule.Typing.{Typing}
 use Rattle.tiff_dir.specs.declared.rule.Typing.TheVariants as typing
-use Rattle.tiff_dir.specs.declared.rule.Count.TheVariants.{One, Samples, Tiles, Exactly, Multiple}
+use Rattle.tiff_dir.specs.declared.rule.ValueCount.TheVariants.{One, Samples, Tiles, Exactly, Multiple}
 use Rattle.tiff_dir.specs.declared.rule.Rule.{Rule}
 
 -- NewSubfileType, which is looked at in every directory
@@ -62,19 +63,19 @@ is_depth bits = bits == 8 || bits == 16
 abbrev pub accepts : ℕ → ℕ → Bool
 accepts tag v =
     if tag == BITS_PER_SAMPLE then is_depth v
-    else if tag == COMPRESSION then v == 1 || v == 32773
-    else if tag == PHOTOMETRIC_INTERPRETATION then v == 1 || v == 2
+    else if tag == COMPRESSION then v == COMPRESSION_NONE || v == COMPRESSION_PACKBITS
+    else if tag == PHOTOMETRIC_INTERPRETATION then v == BLACK_IS_ZERO || v == RGB
     else if tag == SAMPLES_PER_PIXEL then v == 1 || v == 3
-    else if tag == PLANAR_CONFIGURATION then v == 1 || v == 2
-    else if tag == SAMPLE_FORMAT then v == 1 else true
+    else if tag == PLANAR_CONFIGURATION then v == CHUNKY || v == PLANAR
+    else if tag == SAMPLE_FORMAT then v == UNSIGNED_INTEGER else true
 
 -- one sample with BlackIsZero, three with RGB
 abbrev pub samples_fit : ℕ → ℕ → Bool
-samples_fit samples photometric = (samples == 1 && photometric == 1) || (samples == 3 && photometric == 2)
+samples_fit samples photometric = (samples == 1 && photometric == BLACK_IS_ZERO) || (samples == 3 && photometric == RGB)
 
 -- chunky samples, or the samples of planes of their own where there is one: the same layout
 abbrev pub planes_fit : ℕ → ℕ → Bool
-planes_fit planar samples = planar == 1 || (planar == 2 && samples == 1)
+planes_fit planar samples = planar == CHUNKY || (planar == PLANAR && samples == 1)
 
 -- a tile's side is a multiple of 16, and at least 16
 abbrev pub is_tile_side : ℕ → Bool

@@ -1,16 +1,18 @@
 -- What a query asks for, and which bytes of the file it needs.
 use Rattle.tiff_dir.specs.declared.tags.TheConstants.{IMAGE_LENGTH, IMAGE_WIDTH, SAMPLES_PER_PIXEL, TILE_BYTE_COUNTS, TILE_OFFSETS}
-use Rattle.tiff_dir.specs.declared.limits.TheConstants.{MAX_RANGE_BYTES, MAX_WINDOW_SAMPLES}
+use Rattle.extents.specs.declared.limits.TheConstants.{MAX_RANGE_BYTES}
+use Rattle.tiff_dir.specs.declared.limits.TheConstants.{MAX_WINDOW_SAMPLES}
 use Rattle.std.specs.Prelude.{ℕ, ◌+◌, ◌-◌, ◌*◌, ◌/◌, ◌%◌, Bool, false, not, ◌&&◌, ◌||◌, nat_lt, nat_le, ◌==◌, if◌then◌else◌, List, [], ◌∷◌, ◌++◌, length, map, Option, Some, None, is_none, unwrap_or}
 use Rattle.std.specs.List.{filter, last_or, range_with_len, sum_by}
 use Rattle.std.specs.Option.{option_map_or, option_to_list}
 use Rattle.tiff_dir.specs.declared.query.Query.{Query}
 use Rattle.tiff_dir.specs.declared.query.Query.TheVariants.{Window, Info}
 use Rattle.tiff_dir.specs.declared.query.Pick.TheVariants as pick
-use Rattle.tiff_dir.specs.Block.{blocks}
+use Rattle.extents.specs.Block.{blocks}
 use Rattle.tiff_dir.specs.File.{◌>>=◌}
 use Rattle.tiff_dir.specs.Level.{Grid, level_directories, level_directory, level_grid, level_value, across, tile_total}
-use Rattle.tiff_dir.specs.Needs.{Extent, bytes_in, ends_past, field_range, needs_of_directories}
+use Rattle.extents.specs.Extent.{Extent, bytes_in, ends_past}
+use Rattle.tiff_dir.specs.Needs.{field_range, needs_of_directories}
 use Rattle.tiff_dir.specs.Geo.{geo_ranges}
 
 -- columns from left and rows from top, in the samples of a level

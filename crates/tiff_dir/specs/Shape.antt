@@ -4,7 +4,7 @@ use Rattle.tiff_dir.specs.declared.geo.GeoEntries.{GeoEntries}
 use Rattle.tiff_dir.specs.GeoEntries.{AreNear}
 use Rattle.tiff_dir.specs.declared.level.Level.{Level}
 use Rattle.tiff_dir.specs.declared.stage.Draft.{Draft}
-use Rattle.tiff_dir.specs.declared.stage.Step.{Step}
+use Rattle.tiff_dir.specs.declared.stage.WalkStep.{WalkStep}
 use Rattle.tiff_dir.specs.declared.stage.Stage.{Stage}
 use Rattle.tiff_dir.specs.declared.fault.FileFault.{FileFault}
 use Rattle.tiff_dir.specs.declared.fault.FileFault.TheVariants.{LevelShape, TileSize, TileArray}
@@ -62,13 +62,13 @@ layout_from d bits = record {
 }
 
 -- a step keeps the bounds of a walk: the first directory is a level, and only its table leads past it
-pub record IsNext (stage : Stage) (given : ℕ) (step : Step) : Type 0 where
+pub record IsNext (stage : Stage) (given : ℕ) (step : WalkStep) : Type 0 where
   pub kept : IsKept step.stage given
   pub some : 0 < index_of step.stage → (0 < index_of stage) ⊎ IsSome step.level
   pub first : is_past_first step.stage ≡ true → (is_past_first stage ≡ true) ⊎ (is_first_table stage ≡ true)
 
 -- a step that ends directory k has its level
-pub record IsEnd (k : ℕ) (step : Step) : Type 0 where
+pub record IsEnd (k : ℕ) (step : WalkStep) : Type 0 where
   pub kept : IsKept step.stage (1 + 4 * (k + 1))
   pub some : IsSome step.level
 

@@ -5,7 +5,7 @@ use Rattle.std.specs.Prelude.{◌≡◌, ◌≢◌, ℕ, suc, ◌+◌, ◌-◌, 
 use Rattle.std.specs.Option.{option_map, option_to_list}
 use Rattle.std.specs.List.{filter, flat_map, range_with_len}
 use Rattle.tiff_dir.specs.declared.order.Order.{Order}
-use Rattle.tiff_dir.specs.declared.table.Entry.{Entry}
+use Rattle.tiff_dir.specs.declared.table.DirectoryEntry.{DirectoryEntry}
 use Rattle.tiff_dir.specs.declared.level.Level.{Level}
 use Rattle.tiff_dir.specs.declared.level.Kind.TheVariants as kind
 use Rattle.tiff_dir.specs.declared.level.Place.{Place}
@@ -13,15 +13,16 @@ use Rattle.tiff_dir.specs.declared.fault.FileFault.{FileFault}
 use Rattle.tiff_dir.specs.declared.fault.FileFault.TheVariants.{Missing, FieldType}
 use Rattle.tiff_dir.specs.declared.stage.Draft.{Draft}
 use Rattle.tiff_dir.specs.declared.stage.Pending.{Pending}
-use Rattle.tiff_dir.specs.declared.stage.Step.{Step}
+use Rattle.tiff_dir.specs.declared.stage.WalkStep.{WalkStep}
 use Rattle.tiff_dir.specs.declared.stage.Stage.{Stage}
-use Rattle.tiff_dir.specs.declared.stage.Stage.TheVariants.{Header, Count, Table, Bits, Formats, Ended}
+use Rattle.tiff_dir.specs.declared.stage.Stage.TheVariants.{Header, ValueCount, Table, Bits, Formats, Ended}
 use Rattle.tiff_dir.specs.Number.{number_in}
 use Rattle.tiff_dir.specs.File.{◌>>=◌, order_of, number, directory, has_directory, has_all_tags, fields, field, value, size_of}
 use Rattle.tiff_dir.specs.Profile.{accepts, is_depth}
 use Rattle.tiff_dir.specs.Level.{Layout, is_level, previous_level, place_of, layout_at, compression_of}
 use Rattle.tiff_dir.specs.Described.{described}
-use Rattle.tiff_dir.specs.Needs.{Extent, bytes_in, is_entry_count, outside_ranges, ranges_of_directory}
+use Rattle.extents.specs.Extent.{Extent, bytes_in}
+use Rattle.tiff_dir.specs.Needs.{is_entry_count, outside_ranges, ranges_of_directory}
 use Rattle.tiff_dir.specs.Fault.{is_directory_place, IsUnsupported, IsFaultAt, IsFaultOfDirectory, IsFaultOfLevel}
 use Rattle.tiff_dir.specs.Table.{field_of, entry_with_tag}
 
@@ -31,7 +32,7 @@ header_range = record { first = 0; len = 8 }
 -- the range that is wanted at a stage
 abbrev pub range_of : Stage → Option Extent
 range_of Header = Some header_range
-range_of (Count order index at) = Some (record { first = at; len = 2 })
+range_of (ValueCount order index at) = Some (record { first = at; len = 2 })
 range_of (Table order index at n) = Some (record { first = at + 2; len = 12 * n + 4 })
 range_of (Bits pending first formats) = Some (record { first = first; len = 6 })
 range_of (Formats pending first bits) = Some (record { first = first; len = 6 })
@@ -40,7 +41,7 @@ range_of (Ended order index) = None
 -- the number of the directory that the walk is at
 abbrev pub index_of : Stage → ℕ
 index_of Header = 0
-index_of (Count order index at) = index
+index_of (ValueCount order index at) = index
 index_of (Table order index at n) = index
 index_of (Bits pending first formats) = pending.index
 index_of (Formats pending first bits) = pending.index
@@ -49,7 +50,7 @@ index_of (Ended order index) = index
 -- the table of the first directory has been read
 abbrev pub is_past_first : Stage → Bool
 is_past_first Header = false
-is_past_first (Count order index at) = nat_lt 0 index
+is_past_first (ValueCount order index at) = nat_lt 0 index
 is_past_first (Table order index at n) = nat_lt 0 index
 is_past_first (Bits pending first formats) = true
 is_past_first (Formats pending first bits) = true
@@ -79,7 +80,7 @@ three_shorts first = record { first = first; len = 6 }
 -- the ranges that the file needs from a stage on
 abbrev pub still : List ℕ → Stage → List Extent
 still f Header = header_range ∷ ranges_from f 0
-still f (Count order index at) = ranges_from f index
+still f (ValueCount order index at) = ranges_from f index
 still f (Table order index at n) =
     record { first = at + 2; len = 12 * n + 4 } ∷ (outside_ranges f index ++ ranges_from f (suc index))
 still f (Bits pending first formats) =
@@ -170,7 +171,7 @@ HasBits f k None = IsUnsupported f k BITS_PER_SAMPLE
 
 abbrev pub AgreesAt : List ℕ → Stage → Type 0
 AgreesAt f Header = ⊤
-AgreesAt f (Count order index at) = Reaches f order index at
+AgreesAt f (ValueCount order index at) = Reaches f order index at
 AgreesAt f (Table order index at n) = Counts f order index at n
 AgreesAt f (Bits p first formats) = IsPending f p × HasShorts f p.index BITS_PER_SAMPLE first × HasFormats f p.index formats
 AgreesAt f (Formats p first bits) = IsPending f p × HasShorts f p.index SAMPLE_FORMAT first × HasBits f p.index bits
@@ -185,14 +186,14 @@ abbrev pub IsAt : List ℕ → ℕ → Stage → Type 0
 IsAt f k stage = AgreesAt f stage × (still f stage ≡ ranges_from f k)
 
 -- The walk goes on to this stage, and the step has the level that was read, if one was.
-pub record StepsOn (f : List ℕ) (stage : Stage) (step : Step) : Type 0 where
+pub record StepsOn (f : List ℕ) (stage : Stage) (step : WalkStep) : Type 0 where
   pub here : AgreesAt f step.stage
   pub levels : layouts_below f (index_of step.stage)
       ≡ layouts_below f (index_of stage) ++ map described (option_to_list step.level)
   pub come : (r : Extent) → range_of stage ≡ Some r → still f stage ≡ r ∷ still f step.stage
 
 -- The directory is done with: the walk goes on to the next one or ends.
-pub record EndsDirectory (f : List ℕ) (k : ℕ) (step : Step) : Type 0 where
+pub record EndsDirectory (f : List ℕ) (k : ℕ) (step : WalkStep) : Type 0 where
   pub here : AgreesAt f step.stage
   pub index : index_of step.stage ≡ suc k
   pub levels : layouts_below f (suc k) ≡ layouts_below f k ++ map described (option_to_list step.level)
@@ -220,7 +221,7 @@ pub record IsDraft (d : Draft) : Type 0 where
 -- how many ranges a walk has taken at most, and that it is at one of the directories that a file may have
 abbrev pub IsKept : Stage → ℕ → Type 0
 IsKept Header given = given ≤ 0
-IsKept (Count order index at) given = (index < MAX_DIRECTORIES) × (given ≤ 1 + 4 * index)
+IsKept (ValueCount order index at) given = (index < MAX_DIRECTORIES) × (given ≤ 1 + 4 * index)
 IsKept (Table order index at n) given = (index < MAX_DIRECTORIES) × (given ≤ 2 + 4 * index) × (n ≤ MAX_ENTRIES)
 IsKept (Bits p first formats) given = (p.index < MAX_DIRECTORIES) × (given ≤ 3 + 4 * p.index) × IsDraft p.draft
 IsKept (Formats p first bits) given =
@@ -228,9 +229,9 @@ IsKept (Formats p first bits) given =
 IsKept (Ended order index) given = (0 < index) × (index ≤ MAX_DIRECTORIES) × (given ≤ 1 + 4 * index)
 
 -- the table of directory k, with what each entry holds in itself
-pub record HasTable (f : List ℕ) (k : ℕ) (es : List Entry) : Type 0 where
+pub record HasTable (f : List ℕ) (k : ℕ) (es : List DirectoryEntry) : Type 0 where
   pub there : has_directory f k ≡ true
   pub whole : has_all_tags f k ≡ true
   pub told : fields f k ≡ map field_of es
-  pub short : (tag : ℕ) (e : Entry) → entry_with_tag tag es ≡ Some e → number f (e.place + 8) 2 ≡ Some e.short
-  pub long : (tag : ℕ) (e : Entry) → entry_with_tag tag es ≡ Some e → number f (e.place + 8) 4 ≡ Some e.long
+  pub short : (tag : ℕ) (e : DirectoryEntry) → entry_with_tag tag es ≡ Some e → number f (e.place + 8) 2 ≡ Some e.short
+  pub long : (tag : ℕ) (e : DirectoryEntry) → entry_with_tag tag es ≡ Some e → number f (e.place + 8) 4 ≡ Some e.long

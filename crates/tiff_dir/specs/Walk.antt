@@ -1,21 +1,22 @@
 -- The words for what callers see of a walk over a file's directories, which is given one range of the file after another.
 use Rattle.tiff_dir.specs.declared.tags.TheConstants.{BITS_PER_SAMPLE, COMPRESSION, GEO_ASCII_PARAMS, GEO_DOUBLE_PARAMS, GEO_KEY_DIRECTORY, IMAGE_LENGTH, IMAGE_WIDTH, MODEL_PIXEL_SCALE, MODEL_TIEPOINT, MODEL_TRANSFORMATION, SAMPLES_PER_PIXEL, TILE_BYTE_COUNTS, TILE_LENGTH, TILE_OFFSETS, TILE_WIDTH}
-use Rattle.tiff_dir.specs.declared.limits.TheConstants.{MAX_GEO_BYTES, MAX_RANGE_BYTES}
-use Rattle.std.specs.Prelude.{◌≡◌, ℕ, ◌+◌, ◌-◌, ◌*◌, ◌<◌, ◌≤◌, ◌^◌, ⊤, true, List, drop, Option, Some, None, Result, Ok, Err, IsSomeAnd}
+use Rattle.extents.specs.declared.limits.TheConstants.{MAX_RANGE_BYTES}
+use Rattle.tiff_dir.specs.declared.limits.TheConstants.{MAX_GEO_BYTES}
+use Rattle.std.specs.Prelude.{◌≡◌, ℕ, ◌+◌, ◌*◌, ◌<◌, ◌≤◌, ◌^◌, ⊤, true, List, drop, Option, Some, None, Result, Ok, Err, IsSomeAnd}
 use Rattle.tiff_dir.specs.declared.level.Level.{Level}
 use Rattle.tiff_dir.specs.declared.level.Place.{Place}
 use Rattle.tiff_dir.specs.declared.level.Kind.{Kind}
 use Rattle.tiff_dir.specs.declared.level.Kind.TheVariants as kind
 use Rattle.tiff_dir.specs.declared.geo.GeoPlaces.{GeoPlaces}
-use Rattle.tiff_dir.specs.declared.span.Span.{Span}
+use Rattle.extents.specs.declared.span.Span.{Span}
 use Rattle.tiff_dir.specs.declared.fault.FileFault.{FileFault}
 use Rattle.tiff_dir.specs.declared.fault.WalkError.{WalkError}
 use Rattle.tiff_dir.specs.declared.fault.WalkError.TheVariants as errors
 use Rattle.tiff_dir.specs.File.{◌>>=◌, field, has_all_tags, size_of}
 use Rattle.tiff_dir.specs.Level.{compression_of, level_directory, level_grid, level_layout, level_value, plain_size, plain_size_at}
 use Rattle.tiff_dir.specs.Described.{grid_of, layout_of}
-use Rattle.tiff_dir.specs.Needs.{Extent, extent_of_place, needs_of_directories}
-pub use Rattle.tiff_dir.specs.Needs.{bytes_in}
+use Rattle.extents.specs.Extent.{Extent, bytes_in, extent_of_span}
+use Rattle.tiff_dir.specs.Needs.{extent_of_place, needs_of_directories}
 use Rattle.tiff_dir.specs.Query.{array_range}
 use Rattle.tiff_dir.specs.Geo.{geo_place, IsGeoFault}
 use Rattle.tiff_dir.specs.Stage.{range_of}
@@ -52,14 +53,11 @@ to_come w f = drop w.given (needs_of_directories f)
 unfoldable pub WalkAgrees : WalkState → List ℕ → Type 0
 WalkAgrees w f = IsTold w f
 
-abbrev pub extent_of_span : Span → Extent
-extent_of_span s = record { first = s.first; len = s.last + 1 - s.first }
-
 -- the answer is the range that is wanted, of a file of so many bytes
 abbrev pub Wants : WalkState → ℕ → Option Span → Type 0
-Wants w complete None = HasEnded w
-Wants w complete (Some span) =
-    (wanted w ≡ Some (extent_of_span span)) × (span.last < complete) × (span.last + 1 ≤ span.first + MAX_RANGE_BYTES)
+Wants w file_length None = HasEnded w
+Wants w file_length (Some span) =
+    (wanted w ≡ Some (extent_of_span span)) × (span.last < file_length) × (span.last + 1 ≤ span.first + MAX_RANGE_BYTES)
 
 -- what level n of the file says of itself is what this level has
 pub record IsDescribed (f : List ℕ) (n : ℕ) (l : Level) : Type 0 where

@@ -1,11 +1,12 @@
 -- What a walk holds, and when it is what a file says. Callers use the words of the module Walk.
 use Rattle.std.specs.Prelude.{◌≡◌, ℕ, true, List, map, drop}
 use Rattle.std.specs.List.{list_any}
-use Rattle.tiff_dir.specs.declared.table.Entry.{Entry}
+use Rattle.tiff_dir.specs.declared.table.DirectoryEntry.{DirectoryEntry}
 use Rattle.tiff_dir.specs.declared.geo.GeoEntries.{GeoEntries}
 use Rattle.tiff_dir.specs.declared.level.Level.{Level}
 use Rattle.tiff_dir.specs.declared.stage.Stage.{Stage}
-use Rattle.tiff_dir.specs.Needs.{ends_past, needs_of_directories}
+use Rattle.extents.specs.Extent.{ends_past}
+use Rattle.tiff_dir.specs.Needs.{needs_of_directories}
 use Rattle.tiff_dir.specs.Described.{described}
 use Rattle.tiff_dir.specs.GeoEntries.{geo_in}
 use Rattle.tiff_dir.specs.Stage.{is_past_first, AgreesAt, HasTable, index_of, layouts_below, still}
@@ -19,7 +20,7 @@ pub record WalkState : Type 0 where
 
 -- they are those of the first directory
 pub record HasGeo (f : List ℕ) (geo : GeoEntries) : Type 0 where
-  pub entries : List Entry
+  pub entries : List DirectoryEntry
   pub told : HasTable f 0 entries
   pub are : geo ≡ geo_in entries
 

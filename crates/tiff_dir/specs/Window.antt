@@ -1,8 +1,10 @@
 -- The samples of a file, and the window that a query asks for (TIFF 6.0, sections 9 and 15).
-use Rattle.std.specs.Prelude.{◌≡◌, ℕ, ◌+◌, ◌*◌, ◌/◌, ◌%◌, ◌<◌, List, nat_le, if◌then◌else◌, length, slice_index, Option, Some, None, IsSomeAnd}
+use Rattle.std.specs.Prelude.{◌≡◌, Bool, true, false, ℕ, ◌+◌, ◌*◌, ◌/◌, ◌%◌, ◌<◌, List, nat_le, if◌then◌else◌, length, slice_index, Option, Some, None, IsSomeAnd}
 use Rattle.tiff_dir.specs.declared.order.Order.{Order}
 use Rattle.tiff_dir.specs.declared.level.Compression.{Compression}
-use Rattle.tiff_dir.specs.declared.level.Compression.TheVariants.{Plain, PackBits}
+use Rattle.tiff_dir.specs.declared.level.Compression.TheVariants.{Plain, Packed}
+use Rattle.tiff_dir.specs.declared.level.Codec.{Codec}
+use Rattle.tiff_dir.specs.declared.level.Codec.TheVariants.{PackBits}
 use Rattle.tiff_dir.specs.Number.{number_in}
 use Rattle.tiff_dir.specs.File.{order_of}
 use Rattle.tiff_dir.specs.Profile.{sample_bytes}
@@ -10,10 +12,19 @@ use Rattle.tiff_dir.specs.Level.{Grid, Layout, level_layout, across, plain_size,
 use Rattle.tiff_dir.specs.Packets.{Packs}
 use Rattle.tiff_dir.specs.Query.{Rectangle, segment}
 
--- A tile's bytes are those of its segment, or what its packets stand for.
+-- Packed bytes stand for this text by the codec, in rows of `row` bytes.
+abbrev pub PacksBy : Codec → (row : ℕ) (bytes out : List ℕ) → Type 0
+PacksBy PackBits row bytes out = Packs row bytes out
+
+-- the bytes of a tile are packed
+abbrev pub is_packed : Compression → Bool
+is_packed Plain = false
+is_packed (Packed codec) = true
+
+-- A tile's bytes are those of its segment, or what these stand for where they are packed.
 abbrev pub IsUnpackedBy : Compression → (row size : ℕ) (bytes out : List ℕ) → Type 0
 IsUnpackedBy Plain row size bytes out = out ≡ bytes
-IsUnpackedBy PackBits row size bytes out = (length out ≡ size) × Packs row bytes out
+IsUnpackedBy (Packed codec) row size bytes out = (length out ≡ size) × PacksBy codec row bytes out
 
 abbrev pub IsUnpacked : Layout → List ℕ → List ℕ → Type 0
 IsUnpacked l bytes out = IsUnpackedBy l.compression (plain_row l) (plain_size l) bytes out

@@ -7,8 +7,8 @@ ghost use Rattle.tiff_dir.specs.Walk.{AreTyped};
 
 use crate::limits::MAX_GEO_BYTES;
 use crate::profile::is_allowed;
-use crate::rule::{Count, Rule, Typing};
-use crate::table::{Entry, Table};
+use crate::rule::{Rule, Typing, ValueCount};
+use crate::table::{DirectoryEntry, Table};
 use crate::tags::{
     GEO_ASCII_PARAMS, GEO_DOUBLE_PARAMS, GEO_KEY_DIRECTORY, MODEL_PIXEL_SCALE, MODEL_TIEPOINT,
     MODEL_TRANSFORMATION,
@@ -19,42 +19,42 @@ use crate::{FileFault, Place};
 const DIRECTORY: Rule = Rule {
     tag: GEO_KEY_DIRECTORY,
     typing: Typing::Short,
-    count: Count::Multiple(1),
+    count: ValueCount::Multiple(1),
     required: false,
 };
 
 const DOUBLES: Rule = Rule {
     tag: GEO_DOUBLE_PARAMS,
     typing: Typing::Double,
-    count: Count::Multiple(1),
+    count: ValueCount::Multiple(1),
     required: false,
 };
 
 const ASCII: Rule = Rule {
     tag: GEO_ASCII_PARAMS,
     typing: Typing::Ascii,
-    count: Count::Multiple(1),
+    count: ValueCount::Multiple(1),
     required: false,
 };
 
 const SCALE: Rule = Rule {
     tag: MODEL_PIXEL_SCALE,
     typing: Typing::Double,
-    count: Count::Exactly(3),
+    count: ValueCount::Exactly(3),
     required: false,
 };
 
 const TIEPOINTS: Rule = Rule {
     tag: MODEL_TIEPOINT,
     typing: Typing::Double,
-    count: Count::Multiple(6),
+    count: ValueCount::Multiple(6),
     required: false,
 };
 
 const TRANSFORMATION: Rule = Rule {
     tag: MODEL_TRANSFORMATION,
     typing: Typing::Double,
-    count: Count::Exactly(16),
+    count: ValueCount::Exactly(16),
     required: false,
 };
 
@@ -78,16 +78,16 @@ pub struct GeoPlaces {
 /// The entries of the geo fields, of those that the first directory has.
 #[derive(Clone, Copy)]
 pub struct GeoEntries {
-    pub directory: Option<Entry>,
-    pub doubles: Option<Entry>,
-    pub ascii: Option<Entry>,
-    pub scale: Option<Entry>,
-    pub tiepoints: Option<Entry>,
-    pub transformation: Option<Entry>,
+    pub directory: Option<DirectoryEntry>,
+    pub doubles: Option<DirectoryEntry>,
+    pub ascii: Option<DirectoryEntry>,
+    pub scale: Option<DirectoryEntry>,
+    pub tiepoints: Option<DirectoryEntry>,
+    pub transformation: Option<DirectoryEntry>,
 }
 
 /// Where the values of the rule's field stand, if its entry is there.
-fn place_by(rule: Rule, entry: Option<Entry>) -> Result<Option<Place>, FileFault>
+fn place_by(rule: Rule, entry: Option<DirectoryEntry>) -> Result<Option<Place>, FileFault>
     requires { ForSome entry (λ e. e.place + 8 < 2 ^ 33) }
     ensures place { result ≡ place_by rule entry }
     ensures near { IfOk result (λ o. IfSome o (λ p. p.first < 2 ^ 33)) }

@@ -1,7 +1,9 @@
 //! Laws of the definitions, which upper crates rest on. Each function does nothing: its contract is the law.
 ghost use Rattle.std.specs.Prelude.{◌≡◌, ℕ, List, [], Some, slice_get};
-ghost use Rattle.tiff_dir.specs.declared.limits.TheConstants.{BLOCK_SIZE, MAX_DIRECTORIES, MAX_ENTRIES, MAX_GEO_BYTES, MAX_PACKET_BYTES, MAX_RANGE_BYTES, MAX_TILES, MAX_TILE_BYTES, MAX_WINDOW_SAMPLES};
+ghost use Rattle.extents.specs.declared.limits.TheConstants.{BLOCK_SIZE, MAX_RANGE_BYTES};
+ghost use Rattle.tiff_dir.specs.declared.limits.TheConstants.{MAX_DIRECTORIES, MAX_ENTRIES, MAX_GEO_BYTES, MAX_PACKET_BYTES, MAX_TILES, MAX_TILE_BYTES, MAX_WINDOW_SAMPLES};
 ghost use Rattle.tiff_dir.specs.declared.tags.TheConstants.{BITS_PER_SAMPLE, COMPRESSION, GEO_ASCII_PARAMS, GEO_DOUBLE_PARAMS, GEO_KEY_DIRECTORY, IMAGE_LENGTH, IMAGE_WIDTH, MODEL_PIXEL_SCALE, MODEL_TIEPOINT, MODEL_TRANSFORMATION, NEW_SUBFILE_TYPE, PHOTOMETRIC_INTERPRETATION, PLANAR_CONFIGURATION, SAMPLES_PER_PIXEL, SAMPLE_FORMAT, TILE_BYTE_COUNTS, TILE_LENGTH, TILE_OFFSETS, TILE_WIDTH};
+ghost use Rattle.tiff_dir.specs.declared.field_values.TheConstants.{BLACK_IS_ZERO, CHUNKY, COMPRESSION_NONE, COMPRESSION_PACKBITS, PLANAR, RGB, UNSIGNED_INTEGER};
 ghost use Rattle.tiff_dir.specs.declared.query.Query.{Query};
 ghost use Rattle.tiff_dir.specs.declared.query.Query.TheVariants.{Window};
 ghost use Rattle.tiff_dir.specs.declared.query.Pick.{Pick};
@@ -16,7 +18,7 @@ ghost use Rattle.tiff_dir.specs.Packets.{PacketsAreApart, TextsAreUnique};
 ghost use Rattle.tiff_dir.specs.Faulty.{IsFaulty, IsWindow};
 
 /// The limits of the profile, in numbers.
-pub fn profile_limits_are()
+pub fn law_profile_limits_are()
     ensures directories { MAX_DIRECTORIES ≡ 16 }
     ensures entries { MAX_ENTRIES ≡ 256 }
     ensures tiles { MAX_TILES ≡ 65536 }
@@ -29,7 +31,7 @@ pub fn profile_limits_are()
 {}
 
 /// The numbers of the tags (TIFF 6.0, sections 8, 15 and 19; GeoTIFF 1.1, OGC 19-008, sections 7.1 and 8).
-pub fn tags_are()
+pub fn law_tags_are()
     ensures new_subfile_type { NEW_SUBFILE_TYPE ≡ 254 }
     ensures image_width { IMAGE_WIDTH ≡ 256 }
     ensures image_length { IMAGE_LENGTH ≡ 257 }
@@ -51,20 +53,31 @@ pub fn tags_are()
     ensures geo_ascii_params { GEO_ASCII_PARAMS ≡ 34737 }
 {}
 
+/// States the numbers of the values that the profile accepts (TIFF 6.0, sections 4, 6, 8, 9 and 19).
+pub fn law_field_values_are()
+    ensures compression_none { COMPRESSION_NONE ≡ 1 }
+    ensures compression_packbits { COMPRESSION_PACKBITS ≡ 32773 }
+    ensures black_is_zero { BLACK_IS_ZERO ≡ 1 }
+    ensures rgb { RGB ≡ 2 }
+    ensures chunky { CHUNKY ≡ 1 }
+    ensures planar { PLANAR ≡ 2 }
+    ensures unsigned_integer { UNSIGNED_INTEGER ≡ 1 }
+{}
+
 /// A file has one window for a query.
-pub fn one_window()
+pub fn law_one_window()
     ensures window { (f : List ℕ) (q : Query) (v u : List ℕ) → IsWindow f q v → IsWindow f q u → v ≡ u }
 {}
 
 /// A file in which no fault stands for a window has one: that it has none is impossible.
-pub fn some_window()
+pub fn law_some_window()
     ensures window { (f : List ℕ) (x y width height : ℕ) (pick : Pick)
         → ((fault : FileFault) → IsFaulty f (Window x y width height pick) fault → ⊥)
         → ((v : List ℕ) → IsWindow f (Window x y width height pick) v → ⊥) → ⊥ }
 {}
 
 /// What a walk has still to take is the end of what the directories need: nothing when it has ended.
-pub fn what_comes()
+pub fn law_what_comes()
     ensures end { (w : WalkState) (f : List ℕ) → IsEndOf (to_come w f) (needs_of_directories f) }
     ensures over { (w : WalkState) (f : List ℕ) → WalkAgrees w f → HasEnded w → to_come w f ≡ [] }
     // Its directories are then without fault.
@@ -72,12 +85,13 @@ pub fn what_comes()
 {}
 
 /// The levels of a file are what it says of them: each has the values of its number's directory.
-pub fn levels_are_described()
-    ensures described { (f : List ℕ) (levels : List Level) (n : ℕ) (l : Level) → AreLevels f levels → slice_get levels n ≡ Some l → IsDescribed f n l }
+pub fn law_levels_are_described()
+    ensures described { (f : List ℕ) (levels : List Level) (n : ℕ) (l : Level) → AreLevels f levels → slice_get levels n ≡ Some l
+        → IsDescribed f n l }
 {}
 
 /// Bytes are packets in one way, and stand for one text.
-pub fn one_text()
+pub fn law_one_text()
     ensures packet { PacketsAreApart }
     ensures text { TextsAreUnique }
 {}

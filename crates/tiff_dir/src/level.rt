@@ -6,6 +6,8 @@ ghost use Rattle.tiff_dir.specs.declared.limits.TheConstants.{MAX_TILES, MAX_TIL
 ghost use Rattle.tiff_dir.specs.File.{size_of};
 ghost use Rattle.tiff_dir.specs.Profile.{accepts, is_depth, is_tile_side, tile_bytes, tile_count, tiles_along};
 
+use crate::field_values::{COMPRESSION_NONE, COMPRESSION_PACKBITS};
+
 /// The type of a field's values (TIFF 6.0, section 2), in the order of the types' numbers.
 #[derive(Clone, Copy, Debug, PartialEq, Eq)]
 pub enum Kind {
@@ -52,13 +54,35 @@ pub struct Place {
     pub kind: Kind,
 }
 
-/// How a tile's bytes are packed.
+/// How the bytes of a tile are packed, where they are.
+#[derive(Clone, Copy, Debug, PartialEq, Eq)]
+pub enum Codec {
+    /// Row by row in packets (TIFF 6.0, section 9).
+    PackBits,
+}
+
+/// What the Compression field says of a tile's bytes (TIFF 6.0, section 8).
 #[derive(Clone, Copy, Debug, PartialEq, Eq)]
 pub enum Compression {
-    /// Compression 1: as they are.
+    /// They are those of the tile's samples.
     Plain,
-    /// Compression 32773: row by row in packets (TIFF 6.0, section 9).
-    PackBits,
+    /// They are packed.
+    Packed(Codec),
+}
+
+impl Compression {
+    ghost use Rattle.tiff_dir.specs.Level.{compression_of};
+
+    /// Reads the number of a Compression field, and returns None for a number that the profile doesn't have.
+    pub fn of_number(value: u16) -> Option<Compression>
+        ensures { result ≡ compression_of value }
+    {
+        match value {
+            COMPRESSION_NONE => Some(Compression::Plain),
+            COMPRESSION_PACKBITS => Some(Compression::Packed(Codec::PackBits)),
+            _ => None,
+        }
+    }
 }
 
 /// One image of a file, as the profile allows it: sides and tile sides in pixels, the samples of a pixel, the bits of a

@@ -7,17 +7,18 @@ ghost use Rattle.tiff_dir.specs.File.{value};
 ghost use Rattle.tiff_dir.specs.Fault.{IsFaultOfDirectories, IsFaultOfDirectory};
 ghost use Rattle.tiff_dir.specs.Level.{is_level};
 ghost use Rattle.tiff_dir.specs.Described.{layout_of};
-ghost use Rattle.tiff_dir.specs.Needs.{bytes_in};
+ghost use Rattle.extents.specs.Extent.{bytes_in};
 ghost use Rattle.tiff_dir.specs.Profile.{is_depth};
 ghost use Rattle.tiff_dir.specs.Shape.{has_arrays, has_sides, has_tiles, layout_from, IsEnd, IsNext};
 ghost use Rattle.tiff_dir.specs.Stage.{depth_in, three_shorts, EndsDirectory, HasBits, HasFormats, HasShorts, IsBefore, IsDraft, IsPending, IsSupported, IsTableOf, StepsOn};
 ghost use Rattle.tiff_dir.specs.Table.{entries_of, IsReadFault, IsReadIn};
 ghost use Rattle.tiff_dir.specs.declared.fault.FileFault.{FileFault as Fault};
 
+use crate::field_values::UNSIGNED_INTEGER;
 use crate::next::next;
 use crate::profile::SUBFILE;
 use crate::shape::check_shape;
-use crate::stage::{Draft, Pending, Stage, Step};
+use crate::stage::{Draft, Pending, Stage, WalkStep};
 use crate::table::Table;
 use crate::tags::{BITS_PER_SAMPLE, NEW_SUBFILE_TYPE, SAMPLE_FORMAT};
 use crate::{FileFault, Level, Order};
@@ -43,7 +44,8 @@ fn counts_as_level(index: u32, subfile: u32) -> bool
 pub(crate) fn check_directory(index: u32, table: &Table<'_>) -> Result<bool, FileFault>
     ensures first { IfOk result (λ level. level ≡ false → 0 < index) }
     ensures told { (f : List ℕ) → IsTableOf f table.now.order index table.now.at table.now.entries table.now.bytes.now
-        → MatchResult result (λ level. (is_level f index ≡ level) × ((fault : Fault) → IsFaultOfDirectory f index fault → ⊥)) (IsFaultOfDirectory f index) }
+        → MatchResult result (λ level. (is_level f index ≡ level)
+        × ((fault : Fault) → IsFaultOfDirectory f index fault → ⊥)) (IsFaultOfDirectory f index) }
 {
     if !table.ascends() {
         return Err(FileFault::TagOrder);
@@ -62,9 +64,9 @@ fn read_level(table: &Table<'_>) -> Result<Draft, FileFault>
     ensures bounded { IfOk result IsDraft }
 {
     table.check_profile()?;
-    table.check_values()?;
+    let compression = table.check_values()?;
     table.check_counts()?;
-    Ok(table.draft())
+    Ok(table.draft(compression))
 }
 
 /// Reads the entries of a level: its values are in them, or three of BitsPerSample stand outside.
@@ -72,10 +74,11 @@ pub(crate) fn after_level(
     index: u32,
     table: &Table<'_>,
     previous: Option<Level>,
-) -> Result<Step, FileFault>
+) -> Result<WalkStep, FileFault>
     requires few { index < MAX_DIRECTORIES }
     ensures next { IfOk result (IsNext (Stage.Table table.now.order index table.now.at table.now.entries) (3 + 4 * index)) }
-    ensures agrees { (f : List ℕ) → IsTableOf f table.now.order index table.now.at table.now.entries table.now.bytes.now → is_level f index ≡ true
+    ensures agrees { (f : List ℕ) → IsTableOf f table.now.order index table.now.at table.now.entries table.now.bytes.now
+        → is_level f index ≡ true
         → ((fault : Fault) → IsFaultOfDirectory f index fault → ⊥) → IsBefore f index previous
         → MatchResult result (StepsOn f (Stage.Table table.now.order index table.now.at table.now.entries)) (IsFaultOfDirectories f) }
 {
@@ -96,13 +99,13 @@ pub(crate) fn after_level(
             first,
             formats,
         };
-        return Ok(Step { stage, level: None });
+        return Ok(WalkStep { stage, level: None });
     }
     let bits = table.short(BITS_PER_SAMPLE, 0);
     if !is_depth(bits) {
         return Err(FileFault::Unsupported(BITS_PER_SAMPLE));
     }
-    if table.short(SAMPLE_FORMAT, 1) != 1 {
+    if table.short(SAMPLE_FORMAT, UNSIGNED_INTEGER) != UNSIGNED_INTEGER {
         return Err(FileFault::Unsupported(SAMPLE_FORMAT));
     }
     finish(pending, bits, previous)
@@ -118,7 +121,8 @@ fn is_depth(bits: u16) -> bool
 /// The three numbers are all this one.
 fn are_all(order: Order, bytes: &[u8], value: u16) -> bool
     requires { length bytes.now ≡ 6 }
-    ensures { result ≡ ((number_in order 0 2 bytes.now == value) && ((number_in order 2 2 bytes.now == value) && (number_in order 4 2 bytes.now == value))) }
+    ensures { result ≡ ((number_in order 0 2 bytes.now == value) &&
+        ((number_in order 2 2 bytes.now == value) && (number_in order 4 2 bytes.now == value))) }
 {
     order.short_at(bytes, 0) == value
         && order.short_at(bytes, 2) == value
@@ -145,12 +149,13 @@ pub(crate) fn after_bits(
     formats: Option<u32>,
     bytes: &[u8],
     previous: Option<Level>,
-) -> Result<Step, FileFault>
+) -> Result<WalkStep, FileFault>
     requires few { pending.index < MAX_DIRECTORIES }
     requires draft { IsDraft pending.draft }
     requires whole { length bytes.now ≡ 6 }
     ensures next { IfOk result (IsNext (Stage.Bits pending first formats) (4 + 4 * pending.index)) }
-    ensures agrees { (f : List ℕ) → IsPending f pending → HasShorts f pending.index BITS_PER_SAMPLE first → HasFormats f pending.index formats
+    ensures agrees { (f : List ℕ) → IsPending f pending → HasShorts f pending.index BITS_PER_SAMPLE first
+        → HasFormats f pending.index formats
         → IsBefore f pending.index previous → bytes.now ≡ bytes_in f (three_shorts first)
         → MatchResult result (StepsOn f (Stage.Bits pending first formats)) (IsFaultOfDirectories f) }
 {
@@ -161,7 +166,7 @@ pub(crate) fn after_bits(
             first,
             bits,
         };
-        return Ok(Step { stage, level: None });
+        return Ok(WalkStep { stage, level: None });
     }
     let Some(bits) = bits else {
         return Err(FileFault::Unsupported(BITS_PER_SAMPLE));
@@ -176,7 +181,7 @@ pub(crate) fn after_formats(
     bits: Option<u16>,
     bytes: &[u8],
     previous: Option<Level>,
-) -> Result<Step, FileFault>
+) -> Result<WalkStep, FileFault>
     requires few { pending.index < MAX_DIRECTORIES }
     requires draft { IsDraft pending.draft }
     requires whole { length bytes.now ≡ 6 }
@@ -189,7 +194,7 @@ pub(crate) fn after_formats(
     let Some(bits) = bits else {
         return Err(FileFault::Unsupported(BITS_PER_SAMPLE));
     };
-    if !are_all(pending.order, bytes, 1) {
+    if !are_all(pending.order, bytes, UNSIGNED_INTEGER) {
         return Err(FileFault::Unsupported(SAMPLE_FORMAT));
     }
     finish(pending, bits, previous)
@@ -218,17 +223,18 @@ fn level_of(draft: Draft, bits: u16) -> Level
 }
 
 /// Ends a level whose values are all read, and goes to the next directory.
-fn finish(pending: Pending, bits: u16, previous: Option<Level>) -> Result<Step, FileFault>
+fn finish(pending: Pending, bits: u16, previous: Option<Level>) -> Result<WalkStep, FileFault>
     requires few { pending.index < MAX_DIRECTORIES }
     requires draft { IsDraft pending.draft }
     requires depth { is_depth bits ≡ true }
     ensures end { IfOk result (IsEnd pending.index) }
-    ensures agrees { (f : List ℕ) → IsPending f pending → value f pending.index BITS_PER_SAMPLE 0 ≡ Some bits → IsSupported f pending.index BITS_PER_SAMPLE → IsSupported f pending.index SAMPLE_FORMAT
+    ensures agrees { (f : List ℕ) → IsPending f pending → value f pending.index BITS_PER_SAMPLE 0 ≡ Some bits
+        → IsSupported f pending.index BITS_PER_SAMPLE → IsSupported f pending.index SAMPLE_FORMAT
         → IsBefore f pending.index previous → MatchResult result (EndsDirectory f pending.index) (IsFaultOfDirectories f) }
 {
     check_shape(previous, pending.draft, bits)?;
     let stage = next(pending.order, pending.index + 1, pending.next)?;
-    Ok(Step {
+    Ok(WalkStep {
         stage,
         level: Some(level_of(pending.draft, bits)),
     })

@@ -2,19 +2,18 @@
 #![tactic(auto)]
 
 mod fault;
+pub mod field_values;
 mod geo;
 mod laws;
 mod level;
 mod level_steps;
 pub mod limits;
-mod memory;
 mod next;
 mod order;
 mod profile;
 mod query;
 mod rule;
 mod shape;
-mod span;
 mod stage;
 mod steps;
 mod table;
@@ -23,16 +22,15 @@ mod tiles;
 mod values;
 mod walk;
 
+pub use extents::{Memory, Span};
 pub use fault::{FileFault, WalkError};
 pub use geo::GeoPlaces;
 pub use laws::{
-    levels_are_described, one_text, one_window, profile_limits_are, some_window, tags_are,
-    what_comes,
+    law_field_values_are, law_levels_are_described, law_one_text, law_one_window,
+    law_profile_limits_are, law_some_window, law_tags_are, law_what_comes,
 };
-pub use level::{Compression, Kind, Level, Place};
-pub use memory::Memory;
+pub use level::{Codec, Compression, Kind, Level, Place};
 pub use order::Order;
 pub use query::{Pick, Query};
-pub use span::Span;
 pub use tiles::tile_of;
 pub use walk::Walk;

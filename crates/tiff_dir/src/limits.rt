@@ -1,4 +1,5 @@
-//! The limits of this profile, each once: what is past one is refused.
+//! The limits of this profile, each once: what is past one is refused. Those of ranges and blocks stand in `extents`.
+pub use extents::{BLOCK_SIZE, MAX_RANGE_BYTES};
 
 /// The most directories of a file.
 pub const MAX_DIRECTORIES: u32 = 16;
@@ -8,13 +9,9 @@ pub const MAX_ENTRIES: u16 = 256;
 pub const MAX_TILES: u64 = 65_536;
 /// The most bytes of a tile, in the file and when it is unpacked.
 pub const MAX_TILE_BYTES: u64 = 1_048_576;
-/// The most bytes of a range that is asked for, so of a group of tiles.
-pub const MAX_RANGE_BYTES: u64 = 1_048_576;
 /// The most bytes of a field that georeferences an image.
 pub const MAX_GEO_BYTES: u64 = 65_536;
 /// The most samples of a window.
 pub const MAX_WINDOW_SAMPLES: u64 = 4_194_304;
 /// The most bytes that a packet stands for (TIFF 6.0, section 9).
 pub const MAX_PACKET_BYTES: usize = 128;
-/// The bytes of a block of a file, in which it is kept.
-pub const BLOCK_SIZE: u64 = 16_384;

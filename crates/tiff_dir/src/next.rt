@@ -25,5 +25,5 @@ pub(crate) fn next(order: Order, index: u32, at: u32) -> Result<Stage, FileFault
     if at < 8 || at % 2 != 0 {
         return Err(FileFault::DirPlace);
     }
-    Ok(Stage::Count { order, index, at })
+    Ok(Stage::ValueCount { order, index, at })
 }

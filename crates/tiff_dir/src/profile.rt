@@ -5,8 +5,8 @@ ghost use Rattle.tiff_dir.specs.Profile.{profile};
 ghost use Rattle.tiff_dir.specs.Table.{allows, entries_of, keeps, IsEntryFault, IsFaultOfEntries};
 
 use crate::FileFault;
-use crate::rule::{Count, Rule, Typing};
-use crate::table::{Entry, Table};
+use crate::rule::{Rule, Typing, ValueCount};
+use crate::table::{DirectoryEntry, Table};
 use crate::tags::{
     BITS_PER_SAMPLE, COMPRESSION, IMAGE_LENGTH, IMAGE_WIDTH, NEW_SUBFILE_TYPE,
     PHOTOMETRIC_INTERPRETATION, PLANAR_CONFIGURATION, SAMPLE_FORMAT, SAMPLES_PER_PIXEL,
@@ -17,7 +17,7 @@ use crate::tags::{
 pub const SUBFILE: Rule = Rule {
     tag: NEW_SUBFILE_TYPE,
     typing: Typing::Long,
-    count: Count::One,
+    count: ValueCount::One,
     required: false,
 };
 
@@ -27,79 +27,79 @@ const PROFILE: [Rule; 13] = [
     Rule {
         tag: IMAGE_WIDTH,
         typing: Typing::ShortOrLong,
-        count: Count::One,
+        count: ValueCount::One,
         required: true,
     },
     Rule {
         tag: IMAGE_LENGTH,
         typing: Typing::ShortOrLong,
-        count: Count::One,
+        count: ValueCount::One,
         required: true,
     },
     Rule {
         tag: BITS_PER_SAMPLE,
         typing: Typing::Short,
-        count: Count::Samples,
+        count: ValueCount::Samples,
         required: true,
     },
     Rule {
         tag: COMPRESSION,
         typing: Typing::Short,
-        count: Count::One,
+        count: ValueCount::One,
         required: true,
     },
     Rule {
         tag: PHOTOMETRIC_INTERPRETATION,
         typing: Typing::Short,
-        count: Count::One,
+        count: ValueCount::One,
         required: true,
     },
     Rule {
         tag: SAMPLES_PER_PIXEL,
         typing: Typing::Short,
-        count: Count::One,
+        count: ValueCount::One,
         required: false,
     },
     Rule {
         tag: PLANAR_CONFIGURATION,
         typing: Typing::Short,
-        count: Count::One,
+        count: ValueCount::One,
         required: false,
     },
     Rule {
         tag: TILE_WIDTH,
         typing: Typing::ShortOrLong,
-        count: Count::One,
+        count: ValueCount::One,
         required: true,
     },
     Rule {
         tag: TILE_LENGTH,
         typing: Typing::ShortOrLong,
-        count: Count::One,
+        count: ValueCount::One,
         required: true,
     },
     Rule {
         tag: TILE_OFFSETS,
         typing: Typing::Long,
-        count: Count::Tiles,
+        count: ValueCount::Tiles,
         required: true,
     },
     Rule {
         tag: TILE_BYTE_COUNTS,
         typing: Typing::ShortOrLong,
-        count: Count::Tiles,
+        count: ValueCount::Tiles,
         required: true,
     },
     Rule {
         tag: SAMPLE_FORMAT,
         typing: Typing::Short,
-        count: Count::Samples,
+        count: ValueCount::Samples,
         required: false,
     },
 ];
 
 /// The type is the rule's, and so is a count that is to be one.
-pub(crate) fn is_allowed(rule: Rule, entry: Entry) -> bool
+pub(crate) fn is_allowed(rule: Rule, entry: DirectoryEntry) -> bool
     ensures { result ≡ allows rule entry }
 {
     let typed = match rule.typing {
@@ -110,10 +110,10 @@ pub(crate) fn is_allowed(rule: Rule, entry: Entry) -> bool
         Typing::Double => entry.kind == 12,
     };
     let counted = match rule.count {
-        Count::One => entry.count == 1,
-        Count::Samples | Count::Tiles => true,
-        Count::Exactly(n) => entry.count == n,
-        Count::Multiple(n) => n > 0 && entry.count > 0 && entry.count % n == 0,
+        ValueCount::One => entry.count == 1,
+        ValueCount::Samples | ValueCount::Tiles => true,
+        ValueCount::Exactly(n) => entry.count == n,
+        ValueCount::Multiple(n) => n > 0 && entry.count > 0 && entry.count % n == 0,
     };
     typed && counted
 }
@@ -133,7 +133,8 @@ impl Table<'_> {
 
     /// Whether the table has the field of each rule as the rule says.
     fn check_rules(&self, rules: &[Rule]) -> Result<(), FileFault>
-        ensures { MatchResult result (λ _. AllPass (keeps (entries_of self.now)) rules.now) (IsFaultOfEntries rules.now (entries_of self.now)) }
+        ensures { MatchResult result (λ _. AllPass (keeps (entries_of self.now)) rules.now) (IsFaultOfEntries rules.now
+            (entries_of self.now)) }
     {
         for rule in rules {
             self.check_rule(*rule)?;

@@ -11,7 +11,7 @@ pub enum Typing {
 
 /// How many values a field of the profile has.
 #[derive(Clone, Copy)]
-pub enum Count {
+pub enum ValueCount {
     One,
     /// As many as a pixel has samples.
     Samples,
@@ -27,6 +27,6 @@ pub enum Count {
 pub struct Rule {
     pub tag: u16,
     pub typing: Typing,
-    pub count: Count,
+    pub count: ValueCount,
     pub required: bool,
 }

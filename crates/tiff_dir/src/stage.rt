@@ -28,7 +28,7 @@ pub struct Pending {
 pub enum Stage {
     Header,
     /// How many entries the directory has.
-    Count {
+    ValueCount {
         order: Order,
         index: u32,
         at: u32,
@@ -60,7 +60,7 @@ pub enum Stage {
 
 /// What a range told: where the walk goes on, and the level that it ended, if one.
 #[derive(Clone, Copy)]
-pub struct Step {
+pub struct WalkStep {
     pub stage: Stage,
     pub level: Option<Level>,
 }

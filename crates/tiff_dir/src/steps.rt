@@ -1,12 +1,13 @@
 //! One step of the walk for each range that it wants.
 ghost use Rattle.std.specs.Prelude.{◌≡◌, ℕ, ◌+◌, ◌*◌, ◌<◌, ◌≤◌, ◌^◌, List, true, false, IsSomeAnd, IfSome, IfOk, length, MatchResult};
 ghost use Rattle.std.specs.Option.{option_map};
-ghost use Rattle.tiff_dir.specs.declared.limits.TheConstants.{MAX_DIRECTORIES, MAX_ENTRIES, MAX_RANGE_BYTES};
+ghost use Rattle.extents.specs.declared.limits.TheConstants.{MAX_RANGE_BYTES};
+ghost use Rattle.tiff_dir.specs.declared.limits.TheConstants.{MAX_DIRECTORIES, MAX_ENTRIES};
 ghost use Rattle.tiff_dir.specs.File.{order_of};
 ghost use Rattle.tiff_dir.specs.Fault.{IsFaultOfDirectories};
-ghost use Rattle.tiff_dir.specs.Needs.{bytes_in};
+ghost use Rattle.extents.specs.Extent.{bytes_in};
 ghost use Rattle.tiff_dir.specs.GeoEntries.{AreNear};
-ghost use Rattle.tiff_dir.specs.Walk.{extent_of_span};
+ghost use Rattle.extents.specs.Extent.{extent_of_span};
 ghost use Rattle.tiff_dir.specs.WalkState.{HasGeo};
 ghost use Rattle.tiff_dir.specs.Shape.{IsNext};
 ghost use Rattle.tiff_dir.specs.Stage.{header_range, index_of, is_first_table, range_of, AgreesAt, IsBefore, IsKept, IsTableOf, StepsOn};
@@ -15,7 +16,7 @@ use crate::geo::GeoEntries;
 use crate::level_steps::{after_bits, after_formats, after_level, check_directory};
 use crate::limits::MAX_ENTRIES;
 use crate::next::next;
-use crate::stage::{Stage, Step};
+use crate::stage::{Stage, WalkStep};
 use crate::table::Table;
 use crate::{FileFault, Level, Order, Span};
 
@@ -35,10 +36,11 @@ fn order_in(bytes: &[u8]) -> Option<Order>
 }
 
 /// The header tells the order and the place of the first directory.
-fn after_header(bytes: &[u8]) -> Result<Step, FileFault>
+fn after_header(bytes: &[u8]) -> Result<WalkStep, FileFault>
     requires { length bytes.now ≡ 8 }
     ensures next { IfOk result (IsNext Stage.Header 1) }
-    ensures agrees { (f : List ℕ) → bytes.now ≡ bytes_in f header_range → MatchResult result (StepsOn f Stage.Header) (IsFaultOfDirectories f) }
+    ensures agrees { (f : List ℕ) → bytes.now ≡ bytes_in f header_range
+        → MatchResult result (StepsOn f Stage.Header) (IsFaultOfDirectories f) }
 {
     let Some(order) = order_in(bytes) else {
         return Err(FileFault::Header);
@@ -47,16 +49,16 @@ fn after_header(bytes: &[u8]) -> Result<Step, FileFault>
         return Err(FileFault::Header);
     }
     let stage = next(order, 0, order.long_at(bytes, 4))?;
-    Ok(Step { stage, level: None })
+    Ok(WalkStep { stage, level: None })
 }
 
 /// The first two bytes of a directory tell how many entries it has.
-fn after_count(order: Order, index: u32, at: u32, bytes: &[u8]) -> Result<Step, FileFault>
+fn after_count(order: Order, index: u32, at: u32, bytes: &[u8]) -> Result<WalkStep, FileFault>
     requires few { index < MAX_DIRECTORIES }
     requires whole { length bytes.now ≡ 2 }
-    ensures next { IfOk result (IsNext (Stage.Count order index at) (2 + 4 * index)) }
-    ensures agrees { (f : List ℕ) → AgreesAt f (Stage.Count order index at) → bytes.now ≡ bytes_in f (record { first = at; len = 2 })
-        → MatchResult result (StepsOn f (Stage.Count order index at)) (IsFaultOfDirectories f) }
+    ensures next { IfOk result (IsNext (Stage.ValueCount order index at) (2 + 4 * index)) }
+    ensures agrees { (f : List ℕ) → AgreesAt f (Stage.ValueCount order index at) → bytes.now ≡ bytes_in f (record { first = at; len = 2 })
+        → MatchResult result (StepsOn f (Stage.ValueCount order index at)) (IsFaultOfDirectories f) }
 {
     let entries = order.short_at(bytes, 0);
     if entries == 0 || entries > MAX_ENTRIES {
@@ -68,7 +70,7 @@ fn after_count(order: Order, index: u32, at: u32, bytes: &[u8]) -> Result<Step, 
         at,
         entries,
     };
-    Ok(Step { stage, level: None })
+    Ok(WalkStep { stage, level: None })
 }
 
 /// The table tells the entries of a directory, and the place of the next one.
@@ -79,7 +81,7 @@ fn after_table(
     entries: u16,
     bytes: &[u8],
     previous: Option<Level>,
-) -> Result<Step, FileFault>
+) -> Result<WalkStep, FileFault>
     requires few { index < MAX_DIRECTORIES }
     requires short { entries ≤ MAX_ENTRIES }
     requires whole { length bytes.now ≡ 12 * entries + 4 }
@@ -97,7 +99,7 @@ fn after_table(
         return after_level(index, &table, previous);
     }
     let stage = next(order, index + 1, table.next())?;
-    Ok(Step { stage, level: None })
+    Ok(WalkStep { stage, level: None })
 }
 
 /// One step of the walk, by the bytes of the range that it wants.
@@ -106,16 +108,17 @@ pub(crate) fn step(
     bytes: &[u8],
     given: u32,
     previous: Option<Level>,
-) -> Result<Step, FileFault>
+) -> Result<WalkStep, FileFault>
     requires whole { IsSomeAnd (range_of stage) (λ r. length bytes.now ≡ r.len) }
     requires kept { IsKept stage given }
     ensures next { IfOk result (IsNext stage (given + 1)) }
-    ensures agrees { (f : List ℕ) → AgreesAt f stage → IsBefore f (index_of stage) previous → IfSome (range_of stage) (λ r. bytes.now ≡ bytes_in f r)
+    ensures agrees { (f : List ℕ) → AgreesAt f stage → IsBefore f (index_of stage) previous
+        → IfSome (range_of stage) (λ r. bytes.now ≡ bytes_in f r)
         → MatchResult result (StepsOn f stage) (IsFaultOfDirectories f) }
 {
     match stage {
         Stage::Header => after_header(bytes),
-        Stage::Count { order, index, at } => after_count(order, index, at, bytes),
+        Stage::ValueCount { order, index, at } => after_count(order, index, at, bytes),
         Stage::Table {
             order,
             index,
@@ -142,7 +145,8 @@ pub(crate) fn geo_after(stage: Stage, bytes: &[u8], geo: GeoEntries) -> GeoEntri
     requires kept { (given : ℕ) × IsKept stage given }
     requires near { AreNear geo }
     ensures near { AreNear result }
-    ensures taken { is_first_table stage ≡ true → (f : List ℕ) → AgreesAt f stage → IfSome (range_of stage) (λ r. bytes.now ≡ bytes_in f r) → HasGeo f result }
+    ensures taken { is_first_table stage ≡ true → (f : List ℕ) → AgreesAt f stage
+        → IfSome (range_of stage) (λ r. bytes.now ≡ bytes_in f r) → HasGeo f result }
     ensures same { is_first_table stage ≡ false → result ≡ geo }
 {
     match stage {
@@ -182,7 +186,7 @@ pub(crate) fn range(stage: Stage) -> Option<Span>
 {
     match stage {
         Stage::Header => Some(span(0, 8)),
-        Stage::Count { at, .. } => Some(span(u64::from(at), 2)),
+        Stage::ValueCount { at, .. } => Some(span(u64::from(at), 2)),
         Stage::Table { at, entries, .. } => {
             Some(span(u64::from(at) + 2, 12 * u64::from(entries) + 4))
         }

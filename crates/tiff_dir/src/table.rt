@@ -6,7 +6,7 @@ use crate::Order;
 
 /// One entry of a directory: where it stands in the file, and the numbers in its 12 bytes.
 #[derive(Clone, Copy)]
-pub struct Entry {
+pub struct DirectoryEntry {
     pub tag: u16,
     pub kind: u16,
     pub count: u32,
@@ -35,11 +35,11 @@ impl Table<'_> {
     ghost use Rattle.tiff_dir.specs.Table.{entries_of, entry_at, field_of, entry_with_tag};
 
     /// The entry in the 12 bytes from `start`.
-    fn entry_at(&self, start: usize) -> Entry
+    fn entry_at(&self, start: usize) -> DirectoryEntry
         requires { start + 12 ≤ length self.now.bytes.now }
         ensures { result ≡ entry_at self.now.order (self.now.at + 2) start self.now.bytes.now }
     {
-        Entry {
+        DirectoryEntry {
             tag: self.order.short_at(self.bytes, start),
             kind: self.order.short_at(self.bytes, start + 2),
             count: self.order.long_at(self.bytes, start + 4),
@@ -50,7 +50,7 @@ impl Table<'_> {
     }
 
     /// The first entry with the tag.
-    pub fn find(&self, tag: u16) -> Option<Entry>
+    pub fn find(&self, tag: u16) -> Option<DirectoryEntry>
         ensures near { IfSome result (λ e. e.place + 8 < 2 ^ 33) }
         ensures first { result ≡ entry_with_tag tag (entries_of self.now) }
     {

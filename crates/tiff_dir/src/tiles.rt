@@ -18,9 +18,11 @@ pub fn tile_of(order: Order, level: &Level, t: u32, offsets: &[u8], counts: &[u8
     ensures offset { result.0 ≡ number_in order (t * 4) 4 offsets.now }
     ensures count { result.1 ≡ number_in order (t * size_of level.now.counts.kind) (size_of level.now.counts.kind) counts.now }
     // Of a level of a file and the bytes of its arrays, these are the values in the file.
-    ensures first { (f : List ℕ) (n : ℕ) → order_of f ≡ Some order → level_layout f n ≡ Some (layout_of level.now) → IsArrayOf f level.now.offsets offsets.now
+    ensures first { (f : List ℕ) (n : ℕ) → order_of f ≡ Some order → level_layout f n ≡ Some (layout_of level.now)
+        → IsArrayOf f level.now.offsets offsets.now
         → level_value f n TILE_OFFSETS t ≡ Some result.0 }
-    ensures len { (f : List ℕ) (n : ℕ) → order_of f ≡ Some order → level_layout f n ≡ Some (layout_of level.now) → IsArrayOf f level.now.counts counts.now
+    ensures len { (f : List ℕ) (n : ℕ) → order_of f ≡ Some order → level_layout f n ≡ Some (layout_of level.now)
+        → IsArrayOf f level.now.counts counts.now
         → level_value f n TILE_BYTE_COUNTS t ≡ Some result.1 }
 {
     let at = t as usize;

@@ -1,11 +1,12 @@
 //! The values and places of a level's fields, as the table of a directory has them.
-ghost use Rattle.std.specs.Prelude.{◌≡◌, ◌+◌, ◌*◌, ◌<◌, ◌^◌, true, length, MatchResult, if◌then◌else◌, ◌==◌};
+ghost use Rattle.std.specs.Prelude.{◌≡◌, ◌+◌, ◌*◌, ◌<◌, ◌^◌, true, length, MatchResult};
 ghost use Rattle.tiff_dir.specs.Profile.{planes_fit, samples_fit};
 ghost use Rattle.tiff_dir.specs.Stage.{IsArrayPlace, IsBounded};
 ghost use Rattle.tiff_dir.specs.Table.{counts_samples, draft_in, kind_in, entries_of, long_in, place_in, place_or, short_or, single_or, HasCounts, HasValues, IsCountFault, IsValueFault};
 
+use crate::field_values::{BLACK_IS_ZERO, CHUNKY, PLANAR, RGB};
 use crate::stage::Draft;
-use crate::table::{Entry, Table};
+use crate::table::{DirectoryEntry, Table};
 use crate::tags::{
     BITS_PER_SAMPLE, COMPRESSION, IMAGE_LENGTH, IMAGE_WIDTH, PHOTOMETRIC_INTERPRETATION,
     PLANAR_CONFIGURATION, SAMPLE_FORMAT, SAMPLES_PER_PIXEL, TILE_BYTE_COUNTS, TILE_LENGTH,
@@ -26,7 +27,7 @@ fn kind_in(number: u16) -> Kind
 }
 
 /// Where the values of an entry stand that has a type of the profile.
-pub(crate) fn place_of_entry(entry: Entry) -> Place
+pub(crate) fn place_of_entry(entry: DirectoryEntry) -> Place
     requires { entry.place + 8 < 2 ^ 33 }
     ensures place { result ≡ place_in entry }
     ensures array { IsArrayPlace result }
@@ -46,29 +47,18 @@ pub(crate) fn place_of_entry(entry: Entry) -> Place
     }
 }
 
-/// How tiles are packed whose Compression is 1 or 32773.
-fn compression(value: u16) -> Compression
-    ensures { result ≡ (if value == 1 then Compression.Plain else Compression.PackBits) }
-{
-    if value == 1 {
-        Compression::Plain
-    } else {
-        Compression::PackBits
-    }
-}
-
 /// One sample goes with BlackIsZero, three with RGB.
 fn fits_samples(samples: u16, photometric: u16) -> bool
     ensures { result ≡ samples_fit samples photometric }
 {
-    samples == 1 && photometric == 1 || samples == 3 && photometric == 2
+    samples == 1 && photometric == BLACK_IS_ZERO || samples == 3 && photometric == RGB
 }
 
 /// The samples of one pixel stand together.
 fn fits_planes(planar: u16, samples: u16) -> bool
     ensures { result ≡ planes_fit planar samples }
 {
-    planar == 1 || planar == 2 && samples == 1
+    planar == CHUNKY || planar == PLANAR && samples == 1
 }
 
 impl Table<'_> {
@@ -119,10 +109,10 @@ impl Table<'_> {
         }
     }
 
-    /// What a table that keeps the profile says of its level.
+    /// Gathers what a table that keeps the profile says of its level, whose compression is known.
     #[tactic(auto, unfolding(crate::specs::Table::draft_in))]
-    pub fn draft(&self) -> Draft
-        ensures draft { result ≡ draft_in (entries_of self.now) }
+    pub fn draft(&self, compression: Compression) -> Draft
+        ensures draft { result ≡ draft_in (entries_of self.now) compression }
         ensures bounded { IsBounded result }
     {
         Draft {
@@ -131,33 +121,32 @@ impl Table<'_> {
             tile_width: self.single(TILE_WIDTH, 0),
             tile_length: self.single(TILE_LENGTH, 0),
             samples: self.short(SAMPLES_PER_PIXEL, 1),
-            compression: compression(self.short(COMPRESSION, 0)),
+            compression,
             offsets: self.place(TILE_OFFSETS),
             counts: self.place(TILE_BYTE_COUNTS),
         }
     }
 
-    /// Whether the values that always stand in their entries are those of the profile.
-    pub fn check_values(&self) -> Result<(), FileFault>
-        ensures { MatchResult result (λ _. HasValues (entries_of self.now)) (IsValueFault (entries_of self.now)) }
+    /// Checks that the values that always stand in their entries are those of the profile, and returns the compression that they name.
+    pub fn check_values(&self) -> Result<Compression, FileFault>
+        ensures { MatchResult result (HasValues (entries_of self.now)) (IsValueFault (entries_of self.now)) }
     {
         let photometric = self.short(PHOTOMETRIC_INTERPRETATION, 0);
-        if photometric != 1 && photometric != 2 {
+        if photometric != BLACK_IS_ZERO && photometric != RGB {
             return Err(FileFault::Unsupported(PHOTOMETRIC_INTERPRETATION));
         }
         let samples = self.short(SAMPLES_PER_PIXEL, 1);
         if !fits_samples(samples, photometric) {
             return Err(FileFault::Unsupported(SAMPLES_PER_PIXEL));
         }
-        let planar = self.short(PLANAR_CONFIGURATION, 1);
+        let planar = self.short(PLANAR_CONFIGURATION, CHUNKY);
         if !fits_planes(planar, samples) {
             return Err(FileFault::Unsupported(PLANAR_CONFIGURATION));
         }
-        let compression = self.short(COMPRESSION, 0);
-        if compression != 1 && compression != 32773 {
+        let Some(compression) = Compression::of_number(self.short(COMPRESSION, 0)) else {
             return Err(FileFault::Unsupported(COMPRESSION));
-        }
-        Ok(())
+        };
+        Ok(compression)
     }
 
     /// Whether the field is absent or has a value for each sample.

@@ -72,20 +72,22 @@ impl Walk {
         }
     }
 
-    /// The range that is wanted next, of a file of `complete` bytes, or `None` at the end: at most 1,048,576 bytes, all of them
+    /// The range that is wanted next, of a file of `file_length` bytes, or `None` at the end: at most 1,048,576 bytes, all of them
     /// in the file. Where the range ends after the file, the fault is PastEnd, and the walk stays as it is.
-    pub fn need(&self, complete: u64) -> Result<Option<Span>, FileFault>
-        ensures wanted { IfOk result (Wants self.now complete) }
+    pub fn need(&self, file_length: u64) -> Result<Option<Span>, FileFault>
+        ensures wanted { IfOk result (Wants self.now file_length) }
         // The only fault is that the range ends after the file.
-        ensures past { IfErr result (λ fault. (fault ≡ FileFault.PastEnd) × IsSomeAnd (wanted self.now) (λ r. complete < r.first + r.len)) }
-        ensures fault { IfErr result (λ fault. (f : List ℕ) → length f ≡ complete → WalkAgrees self.now f → IsFaultOfDirectories f fault) }
+        ensures past { IfErr result (λ fault. (fault ≡ FileFault.PastEnd)
+            × IsSomeAnd (wanted self.now) (λ r. file_length < r.first + r.len)) }
+        ensures fault { IfErr result (λ fault. (f : List ℕ) → length f ≡ file_length → WalkAgrees self.now f
+            → IsFaultOfDirectories f fault) }
         // It is the first of the ranges still to come, and there is none exactly at the end.
         ensures first { (f : List ℕ) → WalkAgrees self.now f → slice_get (to_come self.now f) 0 ≡ wanted self.now }
     {
         let Some(span) = range(self.stage) else {
             return Ok(None);
         };
-        if span.last >= complete {
+        if span.last >= file_length {
             return Err(FileFault::PastEnd);
         }
         Ok(Some(span))
@@ -137,8 +139,10 @@ impl Walk {
     pub fn give(&mut self, bytes: &[u8]) -> Result<(), WalkError>
         requires { IsWanted self.old (length bytes.now) }
         ensures agrees { OnOk result ((f : List ℕ) → WalkAgrees self.old f → IsWantedOf f self.old bytes.now → WalkAgrees self.new f) }
-        ensures come { OnOk result ((f : List ℕ) → WalkAgrees self.old f → IsSomeAnd (wanted self.old) (λ r. to_come self.old f ≡ r ∷ to_come self.new f)) }
-        ensures fault { IfFile result (λ fault. (f : List ℕ) → WalkAgrees self.old f → IsWantedOf f self.old bytes.now → IsFaultOfDirectories f fault) }
+        ensures come { OnOk result ((f : List ℕ) → WalkAgrees self.old f
+            → IsSomeAnd (wanted self.old) (λ r. to_come self.old f ≡ r ∷ to_come self.new f)) }
+        ensures fault { IfFile result (λ fault. (f : List ℕ) → WalkAgrees self.old f → IsWantedOf f self.old bytes.now
+            → IsFaultOfDirectories f fault) }
         ensures given { OnOk result (given_of self.new ≡ given_of self.old + 1) }
         ensures few { OnOk result (given_of self.old ≤ 64) }
         ensures err { OnErr result (self.new ≡ self.old) }

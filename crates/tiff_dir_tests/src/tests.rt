@@ -1,11 +1,12 @@
 //! Files of directories that tests write entry by entry, and walks over them.
 ghost use Rattle.std.specs.Prelude.{IfOk};
-ghost use Rattle.tiff_dir_support.specs.Walked.{IsWalked};
+ghost use Rattle.reference_support.specs.Walked.{IsWalked};
 
+use reference_support::{Course, walk_over};
 use std::test::Fail;
 use tiff_dir::{FileFault, Kind, Memory, Order, Place, Walk};
-use tiff_dir_support::{Course, walk_over};
 
+mod assertions;
 mod chains;
 mod depths;
 mod faults;

@@ -8,9 +8,9 @@ use Rattle.std.proofs.lemmas.List.Elements.{All-cons, All-nil, All-push}
 use Rattle.tiff_dir.specs.declared.level.Level.{Level}
 use Rattle.tiff_dir.specs.Level.{tile_total}
 use Rattle.tiff_dir.specs.Described.{grid_of}
-use Rattle.tiff_dir.specs.Needs.{Extent}
+use Rattle.extents.specs.Extent.{Extent}
 use Rattle.tiff_dir.specs.Query.{joins, joined_after}
-use Rattle.tiff_dir.specs.Walk.{extent_of_span}
+use Rattle.extents.specs.Extent.{extent_of_span}
 use Rattle.tile_plan.specs.declared.plan.Group.{Group}
 use Rattle.tile_plan.specs.Groups as groups
 use Rattle.tile_plan.specs.Groups.{with_tile, alone, grouped_after, grouped}
@@ -131,20 +131,20 @@ tiles_of_groups range ts gs is = tiles_kept gs ∙ ap (flat_map (λ (h : groups.
 -- ---- each group
 
 -- a tile of the level has few bytes, inside a file of so many
-pub record IsFit (range : ℕ → Extent) (l : Level) (complete t : ℕ) : Type 0 where
+pub record IsFit (range : ℕ → Extent) (l : Level) (file_length t : ℕ) : Type 0 where
   pub within : t < tile_total (grid_of l)
   pub few : (range t).len ≤ 1048576
-  pub inside : (range t).first + (range t).len ≤ complete
+  pub inside : (range t).first + (range t).len ≤ file_length
 
 adjoin_more : (range : ℕ → Extent) (at : ℕ) (ts : List ℕ) (t end : ℕ) → Adjoin range at ts end → (range t).first ≡ end → Adjoin range at (ts ++ t ∷ []) (end + (range t).len)
 adjoin_more range at [] t end is first = (first ∙ sym is, ap (λ k. k + (range t).len) is)
 adjoin_more range at (u ∷ ts) t end (begin, rest) first = (begin, adjoin_more range (at + (range u).len) ts t end rest first)
 
-group_alone : (range : ℕ → Extent) (l : Level) (complete t : ℕ) → IsFit range l complete t → IsGroup range l complete (alone t (range t))
-group_alone range l complete t fit = record { tiles = All-cons (λ t. t < tile_total (grid_of l)) t [] fit.within (All-nil (λ t. t < tile_total (grid_of l))); adjoin = (refl, refl); few = fit.few; inside = fit.inside }
+group_alone : (range : ℕ → Extent) (l : Level) (file_length t : ℕ) → IsFit range l file_length t → IsGroup range l file_length (alone t (range t))
+group_alone range l file_length t fit = record { tiles = All-cons (λ t. t < tile_total (grid_of l)) t [] fit.within (All-nil (λ t. t < tile_total (grid_of l))); adjoin = (refl, refl); few = fit.few; inside = fit.inside }
 
-group_more : (range : ℕ → Extent) (l : Level) (complete : ℕ) (g : groups.Group) (t : ℕ) → IsGroup range l complete g → IsFit range l complete t → joins g.range (range t) ≡ true → IsGroup range l complete (with_tile g t (range t))
-group_more range l complete g t is fit joined =
+group_more : (range : ℕ → Extent) (l : Level) (file_length : ℕ) (g : groups.Group) (t : ℕ) → IsGroup range l file_length g → IsFit range l file_length t → joins g.range (range t) ≡ true → IsGroup range l file_length (with_tile g t (range t))
+group_more range l file_length g t is fit joined =
     let (next, few) = and_parts ((range t).first == g.range.first + g.range.len) (nat_le (g.range.len + (range t).len) 1048576) joined in
     let first = eqb-true (range t).first (g.range.first + g.range.len) next in
     let end : g.range.first + g.range.len + (range t).len ≡ g.range.first + (g.range.len + (range t).len) = omega arith in
@@ -155,19 +155,19 @@ group_more range l complete g t is fit joined =
       inside = omega (arith, fit.inside, first);
     }
 
-each_after : (range : ℕ → Extent) (l : Level) (complete : ℕ) (g : groups.Group) (ts : List ℕ) → IsGroup range l complete g → AllByRecursion (IsFit range l complete) ts → AllByRecursion (IsGroup range l complete) (grouped_after range g ts)
+each_after : (range : ℕ → Extent) (l : Level) (file_length : ℕ) (g : groups.Group) (ts : List ℕ) → IsGroup range l file_length g → AllByRecursion (IsFit range l file_length) ts → AllByRecursion (IsGroup range l file_length) (grouped_after range g ts)
 unfolding grouped_after
-each_after range l complete g [] is all = (is, tt)
-each_after range l complete g (t ∷ ts) is (fit, all) = elim (cases_Bool (joins g.range (range t))) [
-  | inl h ↦ rw h (each_after range l complete (with_tile g t (range t)) ts (group_more range l complete g t is fit h) all)
-  | inr h ↦ rw h (is, each_after range l complete (alone t (range t)) ts (group_alone range l complete t fit) all)
+each_after range l file_length g [] is all = (is, tt)
+each_after range l file_length g (t ∷ ts) is (fit, all) = elim (cases_Bool (joins g.range (range t))) [
+  | inl h ↦ rw h (each_after range l file_length (with_tile g t (range t)) ts (group_more range l file_length g t is fit h) all)
+  | inr h ↦ rw h (is, each_after range l file_length (alone t (range t)) ts (group_alone range l file_length t fit) all)
 ]
 
 -- each group of fitting tiles is the bytes of its tiles
-pub each_group : (range : ℕ → Extent) (l : Level) (complete : ℕ) (ts : List ℕ) → AllByRecursion (IsFit range l complete) ts → AllByRecursion (IsGroup range l complete) (grouped range ts)
+pub each_group : (range : ℕ → Extent) (l : Level) (file_length : ℕ) (ts : List ℕ) → AllByRecursion (IsFit range l file_length) ts → AllByRecursion (IsGroup range l file_length) (grouped range ts)
 unfolding grouped grouped_after
-each_group range l complete [] all = tt
-each_group range l complete (t ∷ ts) (fit, all) = each_after range l complete (alone t (range t)) ts (group_alone range l complete t fit) all
+each_group range l file_length [] all = tt
+each_group range l file_length (t ∷ ts) (fit, all) = each_after range l file_length (alone t (range t)) ts (group_alone range l file_length t fit) all
 
 pub all_of : {X Y : Type 0} (P : Y → Type 0) (f : X → Y) (xs : List X) → AllByRecursion P (map f xs) → AllByRecursion (λ x. P (f x)) xs
 all_of P f [] all = tt

@@ -8,3 +8,8 @@ pub mod PlanLemmas
 pub mod PartLemmas
 pub mod RowLemmas
 pub mod BlitLemmas
+pub mod BuilderLemmas
+pub mod PaintLemmas
+pub mod SampleLemmas
+pub mod UnpackedLemmas
+pub mod WindowSamples

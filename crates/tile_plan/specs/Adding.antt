@@ -1,6 +1,6 @@
 -- Groups, one tile more.
 use Rattle.std.specs.Prelude.{ℕ, List, [], ◌∷◌, if◌then◌else◌}
-use Rattle.tiff_dir.specs.Needs.{Extent}
+use Rattle.extents.specs.Extent.{Extent}
 use Rattle.tiff_dir.specs.Query.{joins}
 use Rattle.tile_plan.specs.Groups.{Group, with_tile, alone}
 

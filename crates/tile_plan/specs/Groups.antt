@@ -1,6 +1,6 @@
 -- Groups of tiles that follow each other in the file: each is read by one range.
 use Rattle.std.specs.Prelude.{ℕ, ◌+◌, if◌then◌else◌, List, [], ◌∷◌, ◌++◌}
-use Rattle.tiff_dir.specs.Needs.{Extent}
+use Rattle.extents.specs.Extent.{Extent}
 use Rattle.tiff_dir.specs.Query.{joins}
 
 -- some tiles, and the range from the first one's first byte to the last one's last

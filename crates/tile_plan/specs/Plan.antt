@@ -1,6 +1,6 @@
 -- The groups of a window's tiles, by the bytes of the two arrays of its level.
 use Rattle.tiff_dir.specs.declared.tags.TheConstants.{TILE_BYTE_COUNTS, TILE_OFFSETS}
-use Rattle.tiff_dir.specs.declared.limits.TheConstants.{MAX_RANGE_BYTES}
+use Rattle.extents.specs.declared.limits.TheConstants.{MAX_RANGE_BYTES}
 use Rattle.std.specs.Prelude.{◌≡◌, ℕ, ◌+◌, ◌*◌, ◌<◌, ◌≤◌, ◌⊎◌, true, false, ⊤, nat_lt, ◌==◌, List, [], ◌∷◌, length, map, None, Some}
 use Rattle.std.specs.List.{flat_map, list_any, All, IsAmong}
 use Rattle.std.specs.Option.{option_to_list}
@@ -13,9 +13,10 @@ use Rattle.tiff_dir.specs.declared.fault.FileFault.TheVariants.{PastEnd, TileSiz
 use Rattle.tiff_dir.specs.Number.{number_in}
 use Rattle.tiff_dir.specs.File.{order_of, size_of}
 use Rattle.tiff_dir.specs.Level.{level_layout, level_value, plain_size, tile_total}
-use Rattle.tiff_dir.specs.Needs.{Extent, ends_past}
+use Rattle.extents.specs.Extent.{Extent, ends_past}
 use Rattle.tiff_dir.specs.Described.{grid_of, layout_of}
-use Rattle.tiff_dir.specs.Walk.{IsArrayOf, IsDescribed, extent_of_span}
+use Rattle.extents.specs.Extent.{extent_of_span}
+use Rattle.tiff_dir.specs.Walk.{IsArrayOf, IsDescribed}
 use Rattle.tiff_dir.specs.Faulty.{HasBadTile, is_byte_count, IsFaultOfWindow}
 use Rattle.tiff_dir.specs.Query.{joined_after, rectangle, is_refused, tile_ranges, tiles_in}
 use Rattle.tile_plan.specs.declared.asked.Rectangle.{Rectangle}
@@ -52,9 +53,9 @@ pub record IsRangeOf (f : List ℕ) (n t : ℕ) (r : Extent) : Type 0 where
 
 -- what may be wrong with the range of a tile, in a file of so many bytes
 abbrev pub IsTileFault : Level → ℕ → Extent → FileFault → Type 0
-IsTileFault l complete r TileSize = IsWrongSize l r.len
-IsTileFault l complete r PastEnd = nat_lt complete (r.first + r.len) ≡ true
-IsTileFault l complete r _ = ⊥
+IsTileFault l file_length r TileSize = IsWrongSize l r.len
+IsTileFault l file_length r PastEnd = nat_lt file_length (r.first + r.len) ≡ true
+IsTileFault l file_length r _ = ⊥
 
 -- the tiles' bytes stand one after the other, from one place to another
 abbrev pub Adjoin : (ℕ → Extent) → ℕ → List ℕ → ℕ → Type 0
@@ -62,35 +63,35 @@ Adjoin range at [] end = at ≡ end
 Adjoin range at (t ∷ ts) end = ((range t).first ≡ at) × Adjoin range (at + (range t).len) ts end
 
 -- a group is the bytes of its tiles, at most 1,048,576 of the file
-pub record IsGroup (range : ℕ → Extent) (l : Level) (complete : ℕ) (g : groups.Group) : Type 0 where
+pub record IsGroup (range : ℕ → Extent) (l : Level) (file_length : ℕ) (g : groups.Group) : Type 0 where
   pub tiles : All (λ t. t < tile_total (grid_of l)) g.tiles
   pub adjoin : Adjoin range g.range.first g.tiles (g.range.first + g.range.len)
   pub few : g.range.len ≤ MAX_RANGE_BYTES
-  pub inside : g.range.first + g.range.len ≤ complete
+  pub inside : g.range.first + g.range.len ≤ file_length
 
 -- These are the groups of the rectangle's tiles, of which none has a fault.
-pub record AreGroups (range : ℕ → Extent) (l : Level) (r : Rectangle) (complete : ℕ) (gs : List Group) : Type 0 where
+pub record AreGroups (range : ℕ → Extent) (l : Level) (r : Rectangle) (file_length : ℕ) (gs : List Group) : Type 0 where
   pub groups : map group_of gs ≡ grouped range (tiles_of l r)
   pub tiles : flat_map (λ g. g.tiles.items) gs ≡ tiles_of l r
-  pub each : All (λ g. IsGroup range l complete (group_of g)) gs
-  pub sound : (t : ℕ) → IsAmong (tiles_of l r) t → (fault : FileFault) → IsTileFault l complete (range t) fault → ⊥
+  pub each : All (λ g. IsGroup range l file_length (group_of g)) gs
+  pub sound : (t : ℕ) → IsAmong (tiles_of l r) t → (fault : FileFault) → IsTileFault l file_length (range t) fault → ⊥
 
 -- a tile of the rectangle has the fault
-pub record HasTileFault (range : ℕ → Extent) (l : Level) (r : Rectangle) (complete : ℕ) (fault : FileFault) : Type 0 where
+pub record HasTileFault (range : ℕ → Extent) (l : Level) (r : Rectangle) (file_length : ℕ) (fault : FileFault) : Type 0 where
   pub tile : ℕ
   pub among : IsAmong (tiles_of l r) tile
-  pub wrong : IsTileFault l complete (range tile) fault
+  pub wrong : IsTileFault l file_length (range tile) fault
 
 abbrev pub IsPlanError : (ℕ → Extent) → Level → Rectangle → ℕ → PlanError → Type 0
-IsPlanError range l r complete (File fault) = HasTileFault range l r complete fault
-IsPlanError range l r complete Memory = ⊤
+IsPlanError range l r file_length (File fault) = HasTileFault range l r file_length fault
+IsPlanError range l r file_length Memory = ⊤
 
 -- ---- in a file
 
 -- The query asks for this rectangle of this level of the file, and these are the bytes of the level's arrays.
-pub record IsPlanned (f : List ℕ) (q : Query) (order : Order) (l : Level) (r : Rectangle) (complete : ℕ)
+pub record IsPlanned (f : List ℕ) (q : Query) (order : Order) (l : Level) (r : Rectangle) (file_length : ℕ)
     (offsets counts : List ℕ) : Type 0 where
-  pub size : length f ≡ complete
+  pub size : length f ≡ file_length
   pub order_is : order_of f ≡ Some order
   pub layout_is : level_layout f r.level ≡ Some (layout_of l)
   pub described : IsDescribed f r.level l

@@ -7,10 +7,11 @@ ghost use Rattle.tile_plan.specs.Canvas.{Picture, IsBlit, picture_size};
 
 use crate::rows::{Rows, copy_rows};
 use crate::{Bytes, Rectangle};
+use extents::Memory;
 use std::alloc::Global;
 use std::marker::Model;
 use std::ops::Range;
-use tiff_dir::{Level, Memory};
+use tiff_dir::Level;
 
 /// The bytes of a rectangle of a level, row by row. Samples have the bytes of the tiles: those of 16 bits are in the file's
 /// order.

@@ -1,20 +1,29 @@
-//! From the tiles of a window to its samples.
+//! From a window to its tiles, and from their bytes to the samples of the window; the tiles that are kept unpacked.
 #![tactic(auto)]
 
+mod arrays;
 mod asked;
 mod block;
 mod bytes;
 mod canvas;
+mod decoding;
 mod laws;
+mod paint;
 mod plan;
 mod rows;
+mod samples;
 mod swap;
+mod tile_cache;
+mod window_builder;
 
+pub use arrays::Arrays;
 pub use asked::{Rectangle, rect};
 pub use bytes::{Bytes, Part, Slice};
 pub use canvas::Canvas;
-pub use laws::tiles_cover;
+pub use laws::{law_all_are_painted, law_tiles_cover};
 pub use plan::{Group, groups};
 pub use swap::swap_pairs;
 /// Why there are no groups: a tile of the window has the fault, or no memory was left.
 pub use tiff_dir::WalkError as PlanError;
+pub use tile_cache::TileCache;
+pub use window_builder::WindowBuilder;

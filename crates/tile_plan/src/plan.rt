@@ -6,7 +6,8 @@ ghost use Rattle.tiff_dir.specs.Described.{grid_of, layout_of};
 ghost use Rattle.tiff_dir.specs.Level.{level_layout, plain_size, tile_total};
 ghost use Rattle.tiff_dir.specs.Query.{joins};
 ghost use Rattle.tiff_dir.specs.File.{order_of};
-ghost use Rattle.tiff_dir.specs.Walk.{extent_of_span, IsArrayOf};
+ghost use Rattle.extents.specs.Extent.{extent_of_span};
+ghost use Rattle.tiff_dir.specs.Walk.{IsArrayOf};
 ghost use Rattle.tile_plan.specs.Levels.{is_inside};
 ghost use Rattle.tile_plan.specs.Plan.{range_in, group_of, IsRangeOf, IsWrongSize, IsTileFault, AreGroups, IsPlanError, IsPlanned, AreNeeded, IsErrorOf};
 ghost use Rattle.tile_plan.specs.Groups.{with_tile, alone};
@@ -14,9 +15,10 @@ ghost use Rattle.tile_plan.specs.Adding.{added};
 
 use crate::Rectangle;
 use crate::block::Block;
+use extents::{MAX_RANGE_BYTES, Span};
 use std::alloc::Global;
-use tiff_dir::limits::{MAX_RANGE_BYTES, MAX_TILE_BYTES};
-use tiff_dir::{Compression, FileFault, Level, Order, Span, WalkError as PlanError, tile_of};
+use tiff_dir::limits::MAX_TILE_BYTES;
+use tiff_dir::{Compression, FileFault, Level, Order, WalkError as PlanError, tile_of};
 
 /// Tiles that stand one after the other in the file, in ascending number, and the bytes that they have together.
 #[derive(Debug, Drop, PartialEq, Eq)]
@@ -26,7 +28,7 @@ pub struct Group {
 }
 
 impl Group {
-    fn alone(alloc: Global, tile: u32, span: Span) -> Result<Group, tiff_dir::Memory>
+    fn alone(alloc: Global, tile: u32, span: Span) -> Result<Group, extents::Memory>
         ensures { IfOk result (λ g. group_of g ≡ alone tile (extent_of_span span)) }
     {
         let mut tiles = Vec::new(alloc);
@@ -43,7 +45,7 @@ impl Group {
             && span.last - self.span.first < MAX_RANGE_BYTES
     }
 
-    fn add(&mut self, tile: u32, span: Span) -> Result<(), tiff_dir::Memory>
+    fn add(&mut self, tile: u32, span: Span) -> Result<(), extents::Memory>
         requires { joins (extent_of_span self.old.span) (extent_of_span span) ≡ true }
         ensures { OnOk result (group_of self.new ≡ with_tile (group_of self.old) tile (extent_of_span span)) }
     {
@@ -62,7 +64,7 @@ fn add_tile(
     groups: &mut Vec<Group>,
     tile: u32,
     span: Span,
-) -> Result<(), tiff_dir::Memory>
+) -> Result<(), extents::Memory>
     ensures { OnOk result (map group_of groups.new.items ≡ added (map group_of groups.old.items) tile (extent_of_span span)) }
 {
     match groups.last_mut() {
@@ -81,17 +83,17 @@ fn is_right_size(level: &Level, len: u64) -> bool
 {
     let fits = match level.compression {
         Compression::Plain => len == level.plain_size() as u64,
-        Compression::PackBits => true,
+        Compression::Packed(_) => true,
     };
     0 < len && len <= MAX_TILE_BYTES && fits
 }
 
-/// Where a tile stands in a file of `complete` bytes.
+/// Where a tile stands in a file of `file_length` bytes.
 fn tile_span(
     order: Order,
     level: &Level,
     tile: u32,
-    complete: u64,
+    file_length: u64,
     offsets: &[u8],
     counts: &[u8],
 ) -> Result<Span, FileFault>
@@ -99,9 +101,11 @@ fn tile_span(
     requires offsets { length offsets.now ≡ level.now.offsets.len }
     requires counts { length counts.now ≡ level.now.counts.len }
     ensures range { IfOk result (λ s. extent_of_span s ≡ range_in order level.now offsets.now counts.now tile) }
-    ensures sound { IfOk result (λ _. (fault : Fault) → IsTileFault level.now complete (range_in order level.now offsets.now counts.now tile) fault → ⊥) }
-    ensures refused { IfErr result (IsTileFault level.now complete (range_in order level.now offsets.now counts.now tile)) }
-    ensures values { (f : List ℕ) (n : ℕ) → order_of f ≡ Some order → level_layout f n ≡ Some (layout_of level.now) → IsArrayOf f level.now.offsets offsets.now
+    ensures sound { IfOk result (λ _. (fault : Fault)
+        → IsTileFault level.now file_length (range_in order level.now offsets.now counts.now tile) fault → ⊥) }
+    ensures refused { IfErr result (IsTileFault level.now file_length (range_in order level.now offsets.now counts.now tile)) }
+    ensures values { (f : List ℕ) (n : ℕ) → order_of f ≡ Some order → level_layout f n ≡ Some (layout_of level.now)
+        → IsArrayOf f level.now.offsets offsets.now
         → IsArrayOf f level.now.counts counts.now → IsRangeOf f n tile (range_in order level.now offsets.now counts.now tile) }
 {
     let (first, len) = tile_of(order, level, tile, offsets, counts);
@@ -110,7 +114,7 @@ fn tile_span(
     if !is_right_size(level, len) {
         return Err(FileFault::TileSize);
     }
-    if first + len > complete {
+    if first + len > file_length {
         return Err(FileFault::PastEnd);
     }
     Ok(Span {
@@ -119,7 +123,7 @@ fn tile_span(
     })
 }
 
-/// The groups of the tiles of a level that have a pixel of the rectangle, for a file of `complete` bytes: by the bytes of the
+/// The groups of the tiles of a level that have a pixel of the rectangle, for a file of `file_length` bytes: by the bytes of the
 /// level's arrays, in the file's order. A tile that begins where the one before ends joins its group, which has at most 1,048,576
 /// bytes. Tile by tile in ascending number, the fault is TileSize where the byte count is 0, above 1,048,576 or not the plain
 /// size of a plain tile, and PastEnd where the tile ends past the file; Memory comes where none was left. `rect` lies in the
@@ -129,24 +133,26 @@ pub fn groups(
     order: Order,
     level: &Level,
     rect: Rectangle,
-    complete: u64,
+    file_length: u64,
     offsets: &[u8],
     counts: &[u8],
 ) -> Result<Vec<Group>, PlanError>
     requires inside { IsTrue (is_inside level.now rect.x rect.y rect.w rect.h) }
     requires offsets { length offsets.now ≡ level.now.offsets.len }
     requires counts { length counts.now ≡ level.now.counts.len }
-    ensures groups { IfOk result (λ gs. AreGroups (range_in order level.now offsets.now counts.now) level.now rect complete gs.items) }
-    ensures refused { IfErr result (IsPlanError (range_in order level.now offsets.now counts.now) level.now rect complete) }
+    ensures groups { IfOk result (λ gs. AreGroups (range_in order level.now offsets.now counts.now) level.now rect file_length gs.items) }
+    ensures refused { IfErr result (IsPlanError (range_in order level.now offsets.now counts.now) level.now rect file_length) }
     // Of a level of a file and the bytes of its arrays, the groups and the fault are the file's.
-    ensures needed { (f : List ℕ) (q : Query) → IsPlanned f q order level.now rect complete offsets.now counts.now → IfOk result (λ gs. AreNeeded f q gs.items) }
-    ensures stands { (f : List ℕ) (q : Query) → IsPlanned f q order level.now rect complete offsets.now counts.now → IfErr result (IsErrorOf f q) }
+    ensures needed { (f : List ℕ) (q : Query) → IsPlanned f q order level.now rect file_length offsets.now counts.now
+        → IfOk result (λ gs. AreNeeded f q gs.items) }
+    ensures stands { (f : List ℕ) (q : Query) → IsPlanned f q order level.now rect file_length offsets.now counts.now
+        → IfErr result (IsErrorOf f q) }
 {
     let block = Block::of(level, rect);
     let mut groups = Vec::new(alloc);
     for n in 0..block.count() {
         let tile = block.tile(n);
-        let span = tile_span(order, level, tile, complete, offsets, counts)?;
+        let span = tile_span(order, level, tile, file_length, offsets, counts)?;
         add_tile(alloc, &mut groups, tile, span)?;
     }
     Ok(groups)

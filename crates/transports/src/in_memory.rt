@@ -6,7 +6,7 @@ ghost use Rattle.transports.specs.InMemory.{Has, IsAbout, IsAnswerAbout, StandsI
 
 use cog_client::{Lost, Transport};
 use cog_server::{PublishError, Server};
-use http_range::{fronts_are_read, tags_tell_publications};
+use http_range::{law_fronts_are_read, law_tags_tell_publications};
 use std::alloc::Global;
 
 /// Whether an answer carries the tag of the file of this name, or none.
@@ -24,7 +24,7 @@ pub(crate) fn answer_about(server: &Server, name: &[u8], request: &[u8]) -> Resu
     ensures answered { IfOk result (λ text. IsAnswerAbout server.now.catalogue name.now request.now text.items) }
     ensures shows { IfOk result (λ text. IsTrueToAll (StandsIn server.now.catalogue name.now) text.items) }
 {
-    fronts_are_read();
+    law_fronts_are_read();
     let Ok(answer) = server.answer(request) else {
         return Err(Lost);
     };
@@ -139,7 +139,7 @@ pub fn server_of_one(
     ensures accepted { OnOk result (refusal_of 0 [] name.now file.items ≡ None) }
     ensures refused { IfErr result (IsRefusal (refusal_of 0 [] name.now file.items)) }
 {
-    tags_tell_publications();
+    law_tags_tell_publications();
     let mut server = Server::new(alloc, epoch);
     server.publish(name, file)?;
     Ok(server)

@@ -6,14 +6,15 @@ ghost use Rattle.cog_client.specs.Serves.{Serves};
 ghost use Rattle.cog_client.specs.Transport.{OrLost, UpTo};
 ghost use Rattle.transports.specs.InMemory.{Has, IsAnswerAbout};
 
-use cog_client::whole_answers_bring_on;
+use cog_client::law_whole_answers_bring_on;
 
-/// Of a file that it has, a server in memory serves whatever a client asks for, and so does each front of its answers that has room for a head
-/// and for as many blocks as are asked for at once.
-pub fn servers_in_memory_serve()
-    ensures whole { (catalogue : Catalogue) (name : List ℕ) (p : Publication) → Has catalogue name p → Serves (OrLost (IsAnswerAbout catalogue name)) p }
+/// Of a file that it has, a server in memory serves whatever a client asks for, and so does each front of its answers
+/// that has room for a head and for as many blocks as are asked for at once.
+pub fn law_servers_in_memory_serve()
+    ensures whole { (catalogue : Catalogue) (name : List ℕ) (p : Publication) → Has catalogue name p
+        → Serves (OrLost (IsAnswerAbout catalogue name)) p }
     ensures fronts { (catalogue : Catalogue) (name : List ℕ) (p : Publication) (n : ℕ) → answer_room ≤ n
         → Has catalogue name p → Serves (UpTo n (IsAnswerAbout catalogue name)) p }
 {
-    whole_answers_bring_on();
+    law_whole_answers_bring_on();
 }

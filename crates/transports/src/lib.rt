@@ -10,6 +10,6 @@ mod scripted;
 
 pub use in_memory::{InMemory, server_of_one};
 pub use in_pieces::InPieces;
-pub use laws::servers_in_memory_serve;
+pub use laws::law_servers_in_memory_serve;
 pub use replaced::Replaced;
 pub use scripted::{Fate, Scripted};

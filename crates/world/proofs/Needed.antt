@@ -4,10 +4,10 @@ use Rattle.std.specs.Prelude.{IsSomeAnd, slice_get, slice_set, IfSome}
 use Rattle.std.specs.Option.{option_map}
 use Rattle.std.proofs.lemmas.Option.{none-some, same_Some}
 use Rattle.tiff_dir.specs.declared.query.Query.{Query}
-use Rattle.tiff_dir.specs.declared.span.Span.{Span}
+use Rattle.extents.specs.declared.span.Span.{Span}
 use Rattle.http_range.specs.Ask.{request_by}
 use Rattle.http_range.specs.Book.{Publication, Book, HasDistinctTags, In}
-use Rattle.cog_client.specs.declared.asking.Asking.{Asking}
+use Rattle.cog_client.specs.declared.request_options.RequestOptions.{RequestOptions}
 use Rattle.cog_client.specs.declared.error.ClientError.{ClientError}
 use Rattle.cog_client.specs.Case.{Revision}
 use Rattle.cog_client.specs.Client.{ClientState, Knows, KnowsOne, ClientAgrees, ahead_of, asked_of, client_refusal, host_of, name_of, query_of, revision_of, tag_of, closes, how_of}
@@ -50,8 +50,8 @@ same_hosted c next same = (same.host, same.how)
 stays_hosted : (c next later : ClientState) → StaysHosted c next → later ≡ next → IsHosted c → IsHosted later
 stays_hosted c next later stays is hosted = record {
   host_is = ap host_of is ∙ stays.0 ∙ hosted.host_is;
-  closing = ap closes is ∙ ap (λ (h : Asking). h.closes) stays.1 ∙ hosted.closing;
-  near = ap ahead_of is ∙ ap (λ (h : Asking). h.ahead) stays.1 ∙ hosted.near;
+  closing = ap closes is ∙ ap (λ (h : RequestOptions). h.closes) stays.1 ∙ hosted.closing;
+  near = ap ahead_of is ∙ ap (λ (h : RequestOptions). h.ahead) stays.1 ∙ hosted.near;
 }
 
 hosted_same : (old new : List ClientState) → new ≡ old → AllHosted old → AllHosted new
@@ -169,7 +169,7 @@ module _ (laws : LowerLaws) where
       let tag : a.tag ≡ tag_of c = answered.tag ∙ ap (λ x. option_map (λ (v : Revision). v.tag) x) r.goes.revision in
       let text : a.request.items ≡ request_by (closes c) (host_of c) (name_of c) a.span.first a.span.last (tag_of c) = same_Some _ _ (r.text ∙ ap (request_for c) asked) in
       let agrees : ClientAgrees mid w.book = k.goes.agrees w.book (g.agree i c at w.book (λ p j. j) g.distinct) in
-      let near : ahead_of mid ≡ 0 = ap (λ (h : Asking). h.ahead) r.goes.same.how ∙ (hosts i c at).near in
+      let near : ahead_of mid ≡ 0 = ap (λ (h : RequestOptions). h.ahead) r.goes.same.how ∙ (hosts i c at).near in
       let asks : AsksFor mid (revision_of mid) 0 a.span =
       subst (λ n. AsksFor mid (revision_of mid) n a.span) near (subst (λ o. IfSome o (AsksFor mid (revision_of mid) (ahead_of mid))) asked k.asks) in
       record {

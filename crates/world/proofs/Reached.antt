@@ -6,11 +6,11 @@ use Rattle.std.proofs.lemmas.Bool.{false≢true}
 use Rattle.std.proofs.lemmas.Option.{none-some, same_Some}
 use Rattle.tiff_dir.specs.declared.query.Query.{Query}
 use Rattle.tiff_dir.specs.Query.{cost}
-use Rattle.tiff_dir.specs.declared.span.Span.{Span}
+use Rattle.extents.specs.declared.span.Span.{Span}
 use Rattle.http_range.specs.Ask.{CanAsk, request_by}
 use Rattle.http_range.specs.Book.{Publication, In, published}
 use Rattle.http_range.specs.Response.{IsAnswer}
-use Rattle.cog_client.specs.declared.asking.Asking.{Asking}
+use Rattle.cog_client.specs.declared.request_options.RequestOptions.{RequestOptions}
 use Rattle.cog_client.specs.declared.delivered.Delivered.{Delivered}
 use Rattle.cog_client.specs.declared.report.Report.{Report}
 use Rattle.cog_client.specs.Report.{IsTrueReport, Told, told}
@@ -89,7 +89,7 @@ module _ (laws : LowerLaws) (w : World) (cs : List ClientState) (i : ℕ) (c : C
       let s = h.answered.answered in
       let can : CanAsk (host_of c) (name_of c) span.first span.last (tag_of c) = some_of (asked_of mid) span _ asked k.lawful in
       let text : a.request.items ≡ request_by (closes c) (host_of c) (name_of c) span.first span.last (tag_of c) = same_Some _ _ (r.text ∙ ap (request_for c) asked) in
-      let closing : closes mid ≡ closes c = ap (λ (h : Asking). h.closes) r.goes.same.how in
+      let closing : closes mid ≡ closes c = ap (λ (h : RequestOptions). h.closes) r.goes.same.how in
       let same : request_by (closes c) (host_of c) (name_of c) span.first span.last (tag_of c) ≡ request_by (closes mid) (host_of mid) (name_of mid) span.first span.last (tag_of mid) =
       ap (λ b. request_by b (host_of c) (name_of c) span.first span.last (tag_of c)) (sym closing)
       ∙ ap (λ h. request_by (closes mid) h (name_of c) span.first span.last (tag_of c)) (sym host)

@@ -8,7 +8,7 @@ use Rattle.std.proofs.lemmas.List.{map_push, take-append-drop}
 use Rattle.std.proofs.lemmas.Option.{none-some, same_Some}
 use Rattle.std.proofs.lemmas.Slice.Eq.{bytes_eq-Decides}
 use Rattle.tiff_dir.specs.declared.query.Query.{Query}
-use Rattle.tiff_dir.specs.declared.span.Span.{Span}
+use Rattle.extents.specs.declared.span.Span.{Span}
 use Rattle.http_range.specs.Ask.{CanAsk, request_by}
 use Rattle.http_range.specs.Book.{Publication, Book, Catalogue, Includes, published}
 use Rattle.http_range.specs.declared.range.Resolved.TheVariants.{Part, Whole}

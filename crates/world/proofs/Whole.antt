@@ -6,7 +6,7 @@ use Rattle.std.specs.Option.{option_map, option_map_or}
 use Rattle.std.proofs.Common.{Vec, Global}
 use Rattle.std.proofs.lemmas.List.{take_more, take_all}
 use Rattle.std.proofs.lemmas.Option.{none-some, same_Some}
-use Rattle.tiff_dir.specs.declared.memory.Memory.{Memory}
+use Rattle.extents.specs.declared.memory.Memory.{Memory}
 use Rattle.tiff_dir.specs.declared.query.Query.{Query}
 use Rattle.tiff_dir.specs.declared.query.Query.TheVariants as queries
 use Rattle.tiff_dir.specs.Faulty.{IsFaulty}
@@ -20,9 +20,9 @@ use Rattle.cog_reader.specs.declared.outcome.Info.{Info}
 use Rattle.cog_reader.specs.declared.outcome.Outcome.{Outcome}
 use Rattle.cog_reader.specs.declared.outcome.Outcome.TheVariants as outcomes
 use Rattle.cog_reader.specs.declared.outcome.Window.{Window}
-use Rattle.cog_reader.specs.Fields.{geo_bytes}
+use Rattle.cog_reader.specs.GeoFields.{geo_bytes}
 use Rattle.cog_reader.specs.Outcome.{IsInfoOf, IsTrueOf, IsWindowOf, items_of}
-use Rattle.tile_mosaic.specs.Samples.{samples_in}
+use Rattle.tile_plan.specs.Samples.{samples_in}
 use Rattle.cog_server.specs.declared.error.PublishError.{PublishError}
 use Rattle.cog_server.specs.declared.server.Answer.{Answer}
 use Rattle.cog_server.specs.Server.{ServerState}

@@ -1,7 +1,7 @@
 -- What clients ask for in a schedule, and when a report comes at the latest.
 use Rattle.std.specs.Prelude.{◌≡◌, ◌⊎◌, ℕ, suc, ◌≤◌, true, List, ◌∷◌, ◌++◌, length, replicate, take, drop, Option, Some, None, IfSome, IsSomeAnd, slice_get}
 use Rattle.tiff_dir.specs.declared.query.Query.{Query}
-use Rattle.tiff_dir.specs.declared.span.Span.{Span}
+use Rattle.extents.specs.declared.span.Span.{Span}
 use Rattle.tiff_dir.specs.Query.{cost}
 use Rattle.http_range.specs.Ask.{request_by}
 use Rattle.http_range.specs.Book.{Publication, In, published}

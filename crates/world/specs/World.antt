@@ -10,7 +10,7 @@ use Rattle.http_range.specs.Honest.{IsHonest}
 use Rattle.cog_reader.specs.declared.outcome.Outcome.{Outcome}
 use Rattle.cog_reader.specs.declared.outcome.Outcome.TheVariants as outcomes
 use Rattle.cog_reader.specs.declared.outcome.Window.{Window}
-use Rattle.tile_mosaic.specs.Samples.{samples_in}
+use Rattle.tile_plan.specs.Samples.{samples_in}
 use Rattle.cog_server.specs.declared.error.PublishError.{PublishError}
 use Rattle.cog_server.specs.declared.server.Answer.{Answer}
 use Rattle.cog_server.specs.Server.{refusal_of}

@@ -53,8 +53,10 @@ pub fn deliver_at(
     cut: Option<u32>,
     how: Handing,
 ) -> Result<Entry, Memory>
-    ensures ok { IfOk result (λ n. IsDeliveryKeeping (option_copied answer.entry) (slice_get clients.old.items i) cut i n clients.old.items clients.new.items) }
-    ensures err { OnErr result (StopsDelivering (option_copied answer.entry) (slice_get clients.old.items i) cut i clients.old.items clients.new.items) }
+    ensures ok { IfOk result (λ n. IsDeliveryKeeping (option_copied answer.entry)
+        (slice_get clients.old.items i) cut i n clients.old.items clients.new.items) }
+    ensures err { OnErr result (StopsDelivering (option_copied answer.entry)
+        (slice_get clients.old.items i) cut i clients.old.items clients.new.items) }
     ensures there { OnErr result (IsSome (slice_get clients.old.items i)) }
 {
     let Some(answer) = answer else {

@@ -123,8 +123,10 @@ pub fn call_at(
     what: Call<'_>,
     how: Handing,
 ) -> Result<Entry, Memory>
-    ensures ok { IfOk result (λ n. AtClient (slice_get clients.old.items i) (Keeping (CallsWith server.now.catalogue number i what.entry n.effect)) i n clients.old.items clients.new.items) }
-    ensures err { OnErr result (StopsAt (slice_get clients.old.items i) (IsGiven server.now.catalogue number i what.entry) i clients.old.items clients.new.items) }
+    ensures ok { IfOk result (λ n. AtClient (slice_get clients.old.items i) (Keeping
+        (CallsWith server.now.catalogue number i what.entry n.effect)) i n clients.old.items clients.new.items) }
+    ensures err { OnErr result (StopsAt (slice_get clients.old.items i)
+        (IsGiven server.now.catalogue number i what.entry) i clients.old.items clients.new.items) }
     ensures there { OnErr result (IsSome (slice_get clients.old.items i)) }
 {
     let Some(client) = clients.get_mut(i as usize) else {

@@ -79,7 +79,8 @@ pub fn deliver_whole(
 ) -> Result<Effect, Memory>
     ensures seen { IfOk result (λ effect. IsExchanged i asked effect client.old client.new) }
     ensures kept { IfOk result (λ effect. IsDeliveredKeeping asked client.old client.new) }
-    ensures err { OnErr result (IsSomeAnd asked (λ a. (front : List ℕ) × IsFront front a.answer.text.items × StopsDelivery client.old front client.new)) }
+    ensures err { OnErr result (IsSomeAnd asked (λ a. (front : List ℕ) × IsFront front a.answer.text.items
+        × StopsDelivery client.old front client.new)) }
 {
     let Some(asked) = asked else {
         return Ok(Effect::Nothing(i));

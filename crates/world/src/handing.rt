@@ -4,7 +4,7 @@ ghost use Rattle.http_range.specs.Honest.{IsFront};
 ghost use Rattle.cog_client.specs.Keeps.{DeliversKeeping, StopsDelivery};
 
 use cog_client::{Client, Delivered};
-use tiff_dir::Memory;
+use extents::Memory;
 
 /// How answers are handed over.
 #[derive(Clone, Copy)]

@@ -14,17 +14,17 @@ use crate::exchange::check_at;
 use crate::handing::Handing;
 use crate::server::{ask, publish, restart};
 use cog_client::{
-    Client, agreement_is_seen, equal_reports_are_true, left_never_grows, needed_are_asked,
-    nothing_left_is_reported, whole_answers_bring_on,
+    Client, law_agreement_is_seen, law_equal_reports_are_true, law_left_never_grows,
+    law_needed_are_asked, law_nothing_left_is_reported, law_whole_answers_bring_on,
 };
 use cog_server::Server;
-use geokeys::one_geo;
+use geokeys::law_one_geo;
 use http_range::{
-    Memory, clients_are_answered, fronts_are_read, honesty_is_kept, publications_replace,
-    tags_tell_publications,
+    Memory, law_clients_are_answered, law_fronts_are_read, law_honesty_is_kept,
+    law_publications_replace, law_tags_tell_publications,
 };
 use std::alloc::Global;
-use tiff_dir::one_window;
+use tiff_dir::law_one_window;
 
 /// Runs the events in order and logs each. Want of memory ends the run: then the log has the entries of as many first events, not of
 /// all.
@@ -132,19 +132,19 @@ fn run_by(alloc: Global, events: &[Event], how: Handing, log: &mut Log) -> Resul
 fn lower_laws()
     ensures { LowerLaws }
 {
-    tags_tell_publications();
-    equal_reports_are_true();
-    agreement_is_seen();
-    one_geo();
-    publications_replace();
-    clients_are_answered();
-    fronts_are_read();
-    honesty_is_kept();
-    one_window();
-    left_never_grows();
-    nothing_left_is_reported();
-    needed_are_asked();
-    whole_answers_bring_on();
+    law_tags_tell_publications();
+    law_equal_reports_are_true();
+    law_agreement_is_seen();
+    law_one_geo();
+    law_publications_replace();
+    law_clients_are_answered();
+    law_fronts_are_read();
+    law_honesty_is_kept();
+    law_one_window();
+    law_left_never_grows();
+    law_nothing_left_is_reported();
+    law_needed_are_asked();
+    law_whole_answers_bring_on();
 }
 
 /// One event, after these entries; the answers that were sent stand at these places of them.

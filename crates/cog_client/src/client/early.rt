@@ -1,12 +1,12 @@
 //! The requests that a client makes next, as far as they are known before the answer to the present one came.
 ghost use Rattle.std.specs.Prelude.{◌≡◌, ◌≤◌, [], IfOk, IsOk, length, map};
 ghost use Rattle.std.specs.List.{All};
-ghost use Rattle.cached_reader.specs.Early.{AreApart};
+ghost use Rattle.cog_reader.specs.Early.{AreApart};
 ghost use Rattle.cog_client.specs.Early.{AreEarlyRequests, AsksNothingEarly, IsEarly, LeaveNothing};
 
 use crate::client::Client;
-use cached_reader::early_spans;
-use tiff_dir::{Memory, Span};
+use cog_reader::early_spans;
+use extents::{Memory, Span};
 
 #[tactic(auto, unfolding(crate::specs::Client::asked_of, crate::specs::Client::blocks_of, crate::specs::Client::reader_of, crate::specs::Client::to_come, crate::specs::Client::Knows))]
 impl Client {

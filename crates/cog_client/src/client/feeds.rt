@@ -2,19 +2,19 @@
 ghost use Rattle.std.specs.Prelude.{◌≡◌, ◌≤◌, ◌++◌, ℕ, List, [], IfOk, OnErr, OnOk, Ok, drop, length};
 ghost use Rattle.http_range.specs.Announced.{announced, FitsFile};
 ghost use Rattle.cog_client.specs.declared.delivered.Delivered.TheVariants.{Ignored as AnIgnored};
-ghost use Rattle.cog_client.specs.Arrival.{IsBounded};
+ghost use Rattle.cog_client.specs.PartialAnswer.{IsBounded};
 ghost use Rattle.cog_client.specs.Client.{ClientState, feed_of};
 ghost use Rattle.cog_client.specs.FedClient.{Fed, FedBefore, FedBy};
-ghost use Rattle.cog_client.specs.Feeding.{cut_off, nothing_fed, rest_dropped};
+ghost use Rattle.cog_client.specs.AnswerPhase.{cut_off, nothing_fed, rest_dropped};
 ghost use Rattle.cog_client.specs.Keeps.{DeliversKeeping, StopsDelivery};
 
 use crate::case::{Case, case_of_head};
 use crate::client::{Client, first_span};
 use crate::delivered::{Delivered, Ignored};
-use cog_reader::lengths_are_known;
-use http_range::{Head, Why, fronts_are_read, heads_grow};
-use range_cache::{parts_bring_blocks, stored_are_held};
-use tiff_dir::Memory;
+use cog_reader::law_lengths_are_known;
+use extents::Memory;
+use http_range::{Head, Why, law_fronts_are_read, law_heads_grow};
+use range_cache::{law_parts_bring_blocks, law_stored_are_held};
 
 #[tactic(auto, unfolding(crate::specs::Client::asked_of, crate::specs::Client::revision_of, crate::specs::Client::blocks_of, crate::specs::Client::report_of, crate::specs::Client::feed_of))]
 impl Client {
@@ -22,8 +22,8 @@ impl Client {
     pub fn begin(&mut self)
         ensures { Fed self.old [] self.new }
     {
-        heads_grow();
-        self.arrival.clear();
+        law_heads_grow();
+        self.partial_answer.clear();
     }
 
     /// Takes the next bytes of an answer, and stores the blocks that become whole. After `Memory`, the only error, the rest of
@@ -38,7 +38,7 @@ impl Client {
     {
         let from = self.feed_head(piece);
         let fed = self.feed_body(&piece[from..]);
-        self.arrival.is_bounded();
+        self.partial_answer.is_bounded();
         fed
     }
 
@@ -51,12 +51,12 @@ impl Client {
         ensures kept { feed_of self.old ≡ rest_dropped → self.new ≡ record self.old { feed = nothing_fed } }
         ensures ended { feed_of self.new ≡ nothing_fed }
     {
-        fronts_are_read();
-        lengths_are_known();
-        stored_are_held();
-        parts_bring_blocks();
-        let told = self.arrival.told();
-        self.arrival.clear();
+        law_fronts_are_read();
+        law_lengths_are_known();
+        law_stored_are_held();
+        law_parts_bring_blocks();
+        let told = self.partial_answer.told();
+        self.partial_answer.clear();
         if let Delivered::Ignored(_) = told {
             return Ok(told);
         }
@@ -84,8 +84,8 @@ impl Client {
         ensures before { (s : ClientState) (p : List ℕ) → Fed s p self.old → FedBefore s (p ++ piece.now) (drop result piece.now) self.new }
         ensures dropped { feed_of self.old ≡ rest_dropped → self.new ≡ self.old }
     {
-        heads_grow();
-        match self.arrival.look(piece) {
+        law_heads_grow();
+        match self.partial_answer.look(piece) {
             None => 0,
             Some(found) => {
                 let from = found.from;
@@ -104,7 +104,7 @@ impl Client {
         let case = case_of_head(&self.source, asked, &head);
         match case {
             Case::Ignored(why) => {
-                self.arrival.pass(why);
+                self.partial_answer.pass(why);
                 return;
             }
             Case::Adopted => self.adopt(&head, asked),
@@ -117,7 +117,7 @@ impl Client {
         let Some(span) = self.asked else {
             unreachable!()
         };
-        self.arrival.follow(head, case, span);
+        self.partial_answer.follow(head, case, span);
     }
 
     /// Takes bytes of the body, if it is taken.
@@ -127,13 +127,13 @@ impl Client {
         ensures stops { OnErr result (feed_of self.new ≡ rest_dropped) }
         ensures dropped { feed_of self.old ≡ rest_dropped → OnOk result (self.new ≡ self.old) × OnErr result ⊥ }
     {
-        fronts_are_read();
-        lengths_are_known();
-        stored_are_held();
-        parts_bring_blocks();
-        let taken = self.arrival.take(&mut self.cache, bytes);
+        law_fronts_are_read();
+        law_lengths_are_known();
+        law_stored_are_held();
+        law_parts_bring_blocks();
+        let taken = self.partial_answer.take(&mut self.cache, bytes);
         if taken.is_err() {
-            self.arrival.pass(Ignored::NotUsed(Why::Cut));
+            self.partial_answer.pass(Ignored::NotUsed(Why::Cut));
         }
         taken
     }

@@ -3,66 +3,61 @@ ghost use Rattle.std.specs.Prelude.{◌≡◌, ◌≢◌, IfOk, OnErr, length};
 ghost use Rattle.tiff_dir.specs.declared.query.Query.TheVariants as queries;
 ghost use Rattle.tiff_dir.specs.Walk as walks;
 ghost use Rattle.tiff_dir.specs.Walk.{HasEnded};
-ghost use Rattle.cog_reader.specs.declared.kept.Kept.{Kept as Keeps};
+ghost use Rattle.cog_reader.specs.declared.kept_arrays.KeptArrays.{KeptArrays as Keeps};
 ghost use Rattle.cog_reader.specs.declared.state.State.TheVariants as state;
 ghost use Rattle.cog_reader.specs.Give.{AcceptsDirectories};
-ghost use Rattle.cog_reader.specs.Kept.{IsKeptOf};
-ghost use Rattle.cog_reader.specs.Step.{ComesNext, IsStep};
+ghost use Rattle.cog_reader.specs.KeptArrays.{IsKeptOf};
+ghost use Rattle.cog_reader.specs.ReaderStep.{ComesNext, IsStep};
 
 use crate::Outcome;
-use crate::fields::Fields;
-use crate::kept::Kept;
-use crate::state::{State, Step, arrays, fields};
-use std::alloc::Global;
-use tiff_dir::{FileFault, Memory, Query, Span, Walk, WalkError, levels_are_described, what_comes};
-use tile_mosaic::Unpacked;
-use tile_plan::rect;
+use crate::fields::GeoFields;
+use crate::state::{FileView, ReaderStep, State, arrays, fields};
+use extents::{Memory, Span};
+use tiff_dir::{FileFault, Query, Walk, WalkError, law_levels_are_described, law_what_comes};
+use tile_plan::{TileCache, rect};
 
 /// What comes next: a range of the directories, or, where all are read, what the query needs of its own.
 pub fn next(
-    alloc: Global,
-    complete: u64,
-    walk: &Walk,
-    kept: &Kept,
-    unpacked: &mut Unpacked,
+    file: &FileView<'_>,
+    tile_cache: &mut TileCache,
     query: Query,
-) -> Result<Step, Memory>
-    requires { IsKeptOf walk.now kept.now }
-    ensures same { unpacked.new ≡ unpacked.old }
-    ensures step { IfOk result (IsStep complete walk.now kept.now query state.Directories) }
+) -> Result<ReaderStep, Memory>
+    requires { IsKeptOf file.now.walk.now file.now.kept.now }
+    ensures same { tile_cache.new ≡ tile_cache.old }
+    ensures step { IfOk result (IsStep file.now.file_length file.now.walk.now file.now.kept.now query state.Directories) }
 {
-    match walk.need(complete) {
-        Ok(Some(span)) => Ok(Step::Read(State::Directories, span)),
-        Err(fault) => Ok(Step::Answer(Outcome::Fault(fault))),
+    match file.walk.need(file.file_length) {
+        Ok(Some(span)) => Ok(ReaderStep::Read(State::Directories, span)),
+        Err(fault) => Ok(ReaderStep::Answer(Outcome::Fault(fault))),
         Ok(None) => match query {
-            Query::Info => begin_info(alloc, complete, walk),
-            Query::Window { .. } => begin_window(alloc, complete, walk, kept, unpacked, query),
+            Query::Info => begin_info(file),
+            Query::Window { .. } => begin_window(file, tile_cache, query),
         },
     }
 }
 
 /// The next range of the directories.
-pub fn wanted(complete: u64, walk: &Walk) -> Option<Span>
-    ensures { (k : Keeps) → ComesNext complete walk.now k state.Directories result }
+pub fn wanted(file: &FileView<'_>) -> Option<Span>
+    ensures { (k : Keeps) → ComesNext file.now.file_length file.now.walk.now k state.Directories result }
 {
-    match walk.need(complete) {
+    match file.walk.need(file.file_length) {
         Ok(span) => span,
         Err(_past) => None,
     }
 }
 
 /// The directories were read, and Info is asked.
-fn begin_info(alloc: Global, complete: u64, walk: &Walk) -> Result<Step, Memory>
-    requires { HasEnded walk.now }
-    ensures { IfOk result (λ step. (k : Keeps) → IsStep complete walk.now k queries.Info state.Directories step) }
+fn begin_info(file: &FileView<'_>) -> Result<ReaderStep, Memory>
+    requires { HasEnded file.now.walk.now }
+    ensures { IfOk result (λ step. (k : Keeps) → IsStep file.now.file_length file.now.walk.now k queries.Info state.Directories step) }
 {
-    what_comes();
-    let places = match walk.geo_places() {
+    law_what_comes();
+    let places = match file.walk.geo_places() {
         Ok(places) => places,
-        Err(fault) => return Ok(Step::Answer(Outcome::Fault(fault))),
+        Err(fault) => return Ok(ReaderStep::Answer(Outcome::Fault(fault))),
     };
-    let fields = Fields::new(alloc, places);
-    match fields::next(alloc, complete, walk, fields) {
+    let fields = GeoFields::new(file.alloc, places);
+    match fields::next(file, fields) {
         Ok(step) => Ok(step),
         Err(_fields) => Err(Memory),
     }
@@ -70,24 +65,21 @@ fn begin_info(alloc: Global, complete: u64, walk: &Walk) -> Result<Step, Memory>
 
 /// The directories were read, and a window is asked.
 fn begin_window(
-    alloc: Global,
-    complete: u64,
-    walk: &Walk,
-    kept: &Kept,
-    unpacked: &mut Unpacked,
+    file: &FileView<'_>,
+    tile_cache: &mut TileCache,
     query: Query,
-) -> Result<Step, Memory>
-    requires ended { HasEnded walk.now }
-    requires kept { IsKeptOf walk.now kept.now }
+) -> Result<ReaderStep, Memory>
+    requires ended { HasEnded file.now.walk.now }
+    requires kept { IsKeptOf file.now.walk.now file.now.kept.now }
     requires window { query ≢ queries.Info }
-    ensures same { unpacked.new ≡ unpacked.old }
-    ensures step { IfOk result (IsStep complete walk.now kept.now query state.Directories) }
+    ensures same { tile_cache.new ≡ tile_cache.old }
+    ensures step { IfOk result (IsStep file.now.file_length file.now.walk.now file.now.kept.now query state.Directories) }
 {
-    what_comes();
-    levels_are_described();
-    match rect(walk.levels(), query) {
-        Ok(rect) => arrays::next(alloc, complete, walk, kept, unpacked, rect),
-        Err(fault) => Ok(Step::Answer(Outcome::Fault(fault))),
+    law_what_comes();
+    law_levels_are_described();
+    match rect(file.walk.levels(), query) {
+        Ok(rect) => arrays::next(file, tile_cache, rect),
+        Err(fault) => Ok(ReaderStep::Answer(Outcome::Fault(fault))),
     }
 }
 

@@ -1,6 +1,6 @@
 //! A file in memory, and a reader of it that is kept from one query to the next.
 ghost use Rattle.std.specs.Prelude.{◌≡◌, IfSome, length};
-ghost use Rattle.tiff_dir.specs.Walk.{extent_of_span};
+ghost use Rattle.extents.specs.Extent.{extent_of_span};
 
 use super::pieces::Pieces;
 use cog_reader::{Outcome, Reader};
@@ -42,7 +42,7 @@ fn read(alloc: Global, reader: &mut Reader, file: &[u8]) -> Result<Vec<Span>, Me
         };
         match reader.tiles_wanted() {
             Some(Compression::Plain) => reader.paint(&Pieces(bytes)),
-            Some(Compression::PackBits) => {
+            Some(Compression::Packed(_)) => {
                 let mut room = vec![in alloc; 0u8; bytes.len()]?;
                 reader.unpack(&Pieces(bytes), &mut room);
             }

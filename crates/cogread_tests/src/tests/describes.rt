@@ -1,14 +1,14 @@
 //! `cogread describe`: what it tells of files, in words and in JSON. The places are those that gdalinfo 3.6.2 tells of the same bytes.
 use super::reads::told_of;
-use describing::Form;
 use fixtures_support::Values::{At, Long, Short};
 use fixtures_support::{
     Field, FieldType, Order, f1, f3, push_directory, push_double, push_header, push_short,
 };
 use programs_support::Capture;
-use reading::Asked;
+use read_command::Asked;
 use std::alloc::{AllocError, Global};
 use std::test::Fail;
+use text_description::Form;
 use transports::server_of_one;
 
 /// The fields of 16 by 16 samples of 8 bits in a tile, whose scale and tiepoint stand at 160 and 184, and the keys at 232.

@@ -4,11 +4,11 @@ ghost use Rattle.std.specs.Prelude.{◌+◌, ◌^◌, ◌<◌};
 use assertion_support::expect_eq;
 use cog_client::{Client, Pieces, Query};
 use cog_server::Server;
-use exchange_notes::{Noted, NotedNet};
 use fixtures_support::{f1, f2, f2b};
-use programs::Fault;
+use programs::Exit;
 use programs_support::{Capture, Told};
-use reading::{Asked, Exchanges, Telling};
+use read_command::{Asked, Exchanges, Verbosity};
+use read_progress::{Noted, NotedNet};
 use std::alloc::{AllocError, Global};
 use std::io;
 use std::rt::Clock;
@@ -25,19 +25,19 @@ fn read<R: AllocGlobal + Clock, P: Pieces + Drop>(
     pieces: P,
     requests: u32,
     asked: Asked,
-) -> Result<(), Fault>
+) -> Result<(), Exit>
     requires { P.count pieces + requests < 2 ^ 64 }
 {
     let alloc = capture.alloc();
     let Ok(mut client) = Client::new(alloc, b"cog.test", b"a", 66) else {
-        return Err(Fault::Memory);
+        return Err(Exit::Memory);
     };
     let mut noted = Noted::new(alloc, pieces);
     let exchanges = Exchanges {
         rt: capture,
         net: &NotedNet::new(capture),
         requests,
-        telling: Telling::Nothing,
+        verbosity: Verbosity::Nothing,
     };
     let text = exchanges.text(&mut client, &mut noted, asked)?;
     Ok(text.write_to(&mut io::writer(capture))?)

@@ -5,11 +5,11 @@ ghost use Rattle.std.specs.Prelude.{◌+◌, ◌^◌, ◌<◌};
 use assertion_support::expect_eq;
 use cog_client::{Client, Lost, Pieces, Query, Transport};
 use cog_server::Server;
-use exchange_notes::{Noted, NotedNet};
 use fixtures_support::f1;
-use programs::Fault;
+use programs::Exit;
 use programs_support::{Capture, tell};
-use reading::{Asked, Exchanges, Telling};
+use read_command::{Asked, Exchanges, Verbosity};
+use read_progress::{Noted, NotedNet};
 use std::alloc::{AllocError, Global};
 use std::process::Abort;
 use std::rt::Clock;
@@ -42,7 +42,7 @@ fn ask_and_tell<R: Print + Eprint + AllocGlobal + Clock, P: Pieces + Drop>(
     rt: &R,
     pieces: P,
     query: Query,
-    telling: Telling,
+    verbosity: Verbosity,
 ) -> Result<(), Fail>
     requires { P.count pieces + 3 < 2 ^ 64 }
 {
@@ -53,10 +53,10 @@ fn ask_and_tell<R: Print + Eprint + AllocGlobal + Clock, P: Pieces + Drop>(
         rt,
         net: &net,
         requests: 3,
-        telling,
+        verbosity,
     };
     if let Err(error) = exchanges.text(&mut client, &mut noted, Asked::Query(query)) {
-        Fault::from(error).tell(rt, "cogread");
+        Exit::from(error).tell(rt, "cogread");
     }
     Ok(())
 }
@@ -74,11 +74,11 @@ fn told_of<R: AllocGlobal + Clock>(
     server: &Server,
     query: Query,
     fates: &[Fate],
-    telling: Telling,
+    verbosity: Verbosity,
 ) -> Result<String, Fail> {
     let lossy = Scripted::new(InMemory::new(server, b"a"), fates);
     let pieces = InPieces::new(capture.alloc(), lossy, &SIZES);
-    ask_and_tell(&capture, pieces, query, telling)?;
+    ask_and_tell(&capture, pieces, query, verbosity)?;
     Ok(told_in(capture)?)
 }
 
@@ -118,7 +118,7 @@ const TOLD: [(&[Fate], u32, &str); 4] = [
 fn tells_each_exchange(rt: HostRuntime) -> Result<(), Fail> {
     let server = server_of_one(rt.alloc(), 1, b"a", f1(rt.alloc())?)?;
     for (fates, x, want) in TOLD {
-        let told = told_of(Capture::new(&rt), &server, pixel(x), fates, Telling::Each)?;
+        let told = told_of(Capture::new(&rt), &server, pixel(x), fates, Verbosity::Each)?;
         assert_eq!(rt; told.as_str(), want);
     }
     Ok(())
@@ -189,7 +189,7 @@ fn expect_said<R: Abort + AllocGlobal + Clock>(
         &capture,
         InPieces::new(alloc, says, &SIZES),
         pixel(1),
-        Telling::Each,
+        Verbosity::Each,
     )?;
     let told = told_in(capture)?;
     let line = format!(in alloc; "cogread: GET /a bytes=0-65535: {want}")?;
@@ -229,7 +229,7 @@ fn draws_how_far_the_exchanges_have_come(rt: HostRuntime) -> Result<(), Fail> {
             &server,
             pixel(x),
             fates,
-            Telling::Progress,
+            Verbosity::Progress,
         )?;
         assert_eq!(rt; told.as_str(), want);
     }

@@ -11,12 +11,12 @@ ghost use Rattle.transports.specs.Transports.{exchanges_of, has_lost, served_nam
 use super::LAST_TILE;
 use assertion_support::expect_eq;
 use cog_client::{Client, FetchError, Report, Transport};
-use cog_fetch::{answer_limit_is, fetch, fetch_pieces};
+use cog_fetch::{fetch, fetch_pieces, law_answer_limit_is};
 use cog_server::Server;
 use fixtures_support::{f1, f2};
 use std::alloc::Global;
 use std::test::Fail;
-use transports::{InMemory, InPieces, server_of_one, servers_in_memory_serve};
+use transports::{InMemory, InPieces, law_servers_in_memory_serve, server_of_one};
 
 /// Fetches from a server in memory. Where that has one of the files that the client may read, and no answer was lost, a report stands
 /// behind an opening by as many exchanges as the query costs, and one more: `reports` of `fetch`, whose premise such a server meets.
@@ -30,7 +30,7 @@ fn fetch_in_memory<'c>(
         → ClientAgrees before book → OpensKeeping q before client.old → Has (served_state transport.old).catalogue (served_name transport.old) p
         → has_lost transport.new ≡ false → cost p.file q + 1 ≤ tries → IfOk result (λ report. IsSome (option_copied report)) }
 {
-    servers_in_memory_serve();
+    law_servers_in_memory_serve();
     fetch(client, transport, tries)
 }
 
@@ -46,8 +46,8 @@ fn fetch_in_pieces<'c>(
         → Has (served_state (source_of pieces.old)).catalogue (served_name (source_of pieces.old)) p
         → has_lost (source_of pieces.new) ≡ false → cost p.file q + 1 ≤ tries → IfOk result (λ report. IsSome (option_copied report)) }
 {
-    servers_in_memory_serve();
-    answer_limit_is();
+    law_servers_in_memory_serve();
+    law_answer_limit_is();
     fetch_pieces(client, pieces, tries)
 }
 

@@ -2,13 +2,13 @@
 ghost use Rattle.std.specs.Prelude.{◌≤◌, length};
 
 use assertion_support::expect_eq;
-use http_range::{message_length, messages_stay};
+use http_range::{law_messages_stay, message_length};
 
 /// The length of the first message, where the bytes come in two pieces.
 fn length_in_pieces(bytes: &[u8], cut: usize) -> Option<usize>
     requires { cut ≤ length bytes.now }
 {
-    messages_stay();
+    law_messages_stay();
     match message_length(&bytes[..cut], 0) {
         Some(n) => Some(n),
         None => message_length(bytes, cut),

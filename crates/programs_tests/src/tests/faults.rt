@@ -1,6 +1,6 @@
 //! Faults that no command line of a test meets, told as they are, and the faults of the file that help names.
 use cog_server::PublishError;
-use programs::Fault;
+use programs::Exit;
 use programs_support::{Capture, tell};
 use scripts::ScriptError;
 use std::process::Abort;
@@ -41,7 +41,7 @@ const FILE_FAULTS: [(FileFault, &str, &str); 18] = [
 fn is_told(
     capture: Capture<'_, HostRuntime>,
     program: &str,
-    fault: &Fault,
+    fault: &Exit,
     line: &str,
     status: u8,
 ) -> bool {
@@ -55,15 +55,15 @@ fn is_told(
 
 #[test]
 fn tells_a_fault_by_its_program_and_words(rt: HostRuntime) -> Result<(), Fail> {
-    let of_script = Fault::Script(ScriptError::Memory);
+    let of_script = Exit::Script(ScriptError::Memory);
     let table = [
-        (Fault::NotText, "cogtools", "a word isn't text", 2),
-        (Fault::Memory, "cogserve", "out of memory", 1),
-        (Fault::Memory, "cogread", "out of memory", 1),
+        (Exit::NotText, "cogtools", "a word isn't text", 2),
+        (Exit::Memory, "cogserve", "out of memory", 1),
+        (Exit::Memory, "cogread", "out of memory", 1),
         (of_script, "cogworld", "out of memory", 1),
-        (Fault::CantAccept, "cogserve", "can't accept", 1),
-        (Fault::CantWait, "cogserve", "can't wait", 1),
-        (Fault::CantWrite, "cogserve", "can't write", 1),
+        (Exit::CantAccept, "cogserve", "can't accept", 1),
+        (Exit::CantWait, "cogserve", "can't wait", 1),
+        (Exit::CantWrite, "cogserve", "can't write", 1),
     ];
     for (fault, program, words, status) in table {
         assert!(rt;
@@ -78,7 +78,7 @@ fn tells_a_fault_by_its_program_and_words(rt: HostRuntime) -> Result<(), Fail> {
 fn is_told_by_words(
     rt: &HostRuntime,
     program: &str,
-    fault: &Fault,
+    fault: &Exit,
     words: &str,
     status: u8,
 ) -> Result<bool, Fail> {
@@ -90,7 +90,7 @@ fn is_told_by_words(
 fn tells_a_fault_of_the_file_by_its_number(rt: HostRuntime) {
     for (fault, _, line) in FILE_FAULTS {
         assert!(rt;
-            is_told(Capture::new(&rt), "cogread", &Fault::OfFile(fault), line, 3),
+            is_told(Capture::new(&rt), "cogread", &Exit::OfFile(fault), line, 3),
             "{line}"
         );
     }
@@ -99,7 +99,7 @@ fn tells_a_fault_of_the_file_by_its_number(rt: HostRuntime) {
 /// The fifth refusal needs more publications than a test can make.
 #[test]
 fn tells_that_an_epoch_is_exhausted(rt: HostRuntime) -> Result<(), Fail> {
-    let refused = Fault::Refused(PublishError::Exhausted, String::from_str(rt.alloc(), "a")?);
+    let refused = Exit::Refused(PublishError::Exhausted, String::from_str(rt.alloc(), "a")?);
     assert!(rt;
         is_told(
             Capture::new(&rt),

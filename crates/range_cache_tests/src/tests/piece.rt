@@ -1,7 +1,7 @@
 //! A file of which each byte is known, and pieces of it.
 ghost use Rattle.std.specs.Prelude.{◌≡◌, ◌+◌, ◌<◌, ◌≤◌, ◌^◌, IfOk, vec_len, length};
 
-use range_cache::{Cache, Missing, pieces_bring_blocks, stores_are_counted};
+use range_cache::{Cache, Missing, law_pieces_bring_blocks, law_stores_are_counted};
 use std::alloc::{AllocError, Global};
 use tiff_dir::{Memory, Span};
 
@@ -33,8 +33,8 @@ pub fn put(
     requires within { first + length bytes.now ≤ complete }
     requires near { wanted.last < 2 ^ 40 }
 {
-    stores_are_counted();
-    pieces_bring_blocks();
+    law_stores_are_counted();
+    law_pieces_bring_blocks();
     cache.put(complete, first, bytes, wanted)
 }
 

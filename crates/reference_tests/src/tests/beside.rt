@@ -1,11 +1,12 @@
 //! A walk over a file, beside the plain program's answers.
 use assertion_support::expect_eq;
 use faults_support::faults_of_directories;
-use reference_support::{Extent, Grid, Level as PlainLevel, level_of, needs_of_directories};
+use reference_support::{
+    Course, Extent, Grid, Level as PlainLevel, level_of, needs_of_directories, walk_over,
+};
 use std::process::Abort;
 use std::test::Fail;
 use tiff_dir::{Level, Span};
-use tiff_dir_support::{Course, walk_over};
 
 /// The level as the plain program describes one.
 fn plain_of(level: &Level) -> PlainLevel {

@@ -9,7 +9,7 @@ use reference_support::{
 use std::alloc::Global;
 use std::process::Abort;
 use std::test::Fail;
-use tiff_dir::{Compression, Kind, Order, Place};
+use tiff_dir::{Codec, Compression, Kind, Order, Place};
 
 fn at(first: u64, len: u64, count: u32) -> Place {
     Place {
@@ -100,7 +100,12 @@ fn describes_each_level(rt: HostRuntime) -> Result<(), Fail> {
         at(1146, 1024, 256),
     );
     let first = level(32, Compression::Plain, at(296, 16, 4), at(312, 16, 4));
-    let second = level(16, Compression::PackBits, at(276, 4, 1), at(288, 4, 1));
+    let second = level(
+        16,
+        Compression::Packed(Codec::PackBits),
+        at(276, 4, 1),
+        at(288, 4, 1),
+    );
     let rows = [
         (f1(alloc)?, one, None),
         (f1m(alloc)?, one, None),

@@ -1,9 +1,9 @@
 //! Requests that are sent early on a connection that is kept: each has its turn once, and behind anything else the connection is made
 //! anew.
 use super::peer::{Peer, expect, request, send, send_text};
+use client_sockets::Socket;
 use cog_client::Pieces;
 use fixtures_support::f5;
-use sockets::Socket;
 use std::alloc::Global;
 use std::io::Read;
 use std::net::{Net, TcpStream};

@@ -3,9 +3,9 @@ ghost use Rattle.std.specs.Prelude.{◌<◌, length};
 
 use super::peer::{Peer, request, send, send_text};
 use assertion_support::expect_eq;
+use client_sockets::Socket;
 use cog_client::Pieces;
 use fixtures_support::f1;
-use sockets::Socket;
 use std::alloc::Global;
 use std::io::Write;
 use std::net::{Net, TcpStream};

@@ -1,10 +1,10 @@
 //! The other end of a socket: a server that listens for its connections.
 ghost use Rattle.std.specs.Prelude.{◌<◌, length};
 
+use client_sockets::Socket;
 use cog_client::{Lost, Pieces};
 use cog_server::Server;
 use http_range::{Span, write_open_request, write_request};
-use sockets::Socket;
 use std::alloc::Global;
 use std::io::{Read, Write};
 use std::net::{Net, TcpListener, TcpStream};

@@ -1,10 +1,10 @@
 //! Chains of directories: levels and those that are passed over.
 use super::{Entry, begun, course_of, end_of, fault_of, fields, file_with, put_directory};
 use assertion_support::expect_eq;
+use reference_support::Course;
 use std::process::Abort;
 use std::test::Fail;
 use tiff_dir::{FileFault, Order};
-use tiff_dir_support::Course;
 
 /// A file of a level of 32 by 32 samples, and then as many directories with these entries.
 fn followed_by(

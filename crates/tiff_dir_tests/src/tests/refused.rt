@@ -4,9 +4,9 @@ ghost use Rattle.tiff_dir.specs.Walk.{HasEnded};
 
 use assertion_support::expect_eq;
 use fixtures_support::f1;
+use reference_support::{Next, take_next};
 use std::test::Fail;
 use tiff_dir::{FileFault, Memory, Walk};
-use tiff_dir_support::{Next, take_next};
 
 /// Whether the walk has ended, by what it wants of a file of any length.
 fn has_ended(walk: &Walk) -> bool

@@ -2,10 +2,10 @@
 use super::{course_of, fault_of, place};
 use assertion_support::expect_eq;
 use fixtures_support::{f1, f1m, f2, f3, f4, f5};
+use reference_support::Course;
 use std::process::Abort;
 use std::test::Fail;
-use tiff_dir::{Compression, FileFault, Kind, Level, Order, Span, Walk};
-use tiff_dir_support::Course;
+use tiff_dir::{Codec, Compression, FileFault, Kind, Level, Order, Span, Walk};
 
 /// Whether these are the ranges, each by its first and its last byte.
 fn are_ranges(ranges: &[Span], want: &[(u64, u64)]) -> bool {
@@ -95,7 +95,7 @@ fn walks_over_two_levels(rt: HostRuntime) -> Result<(), Fail> {
     let second = levels.last().ok_or("no level")?;
     expect_eq!(rt; second.offsets, place(276, 4, 1, Kind::Long));
     expect_eq!(rt; second.counts, place(288, 4, 1, Kind::Long));
-    expect_eq!(rt; second.compression, Compression::PackBits);
+    expect_eq!(rt; second.compression, Compression::Packed(Codec::PackBits));
     Ok(())
 }
 

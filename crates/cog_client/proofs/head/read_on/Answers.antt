@@ -10,14 +10,14 @@ returns-in-Head-clause-looks c =
     let a = c.args in
     let head = announced c.in-Head.head in
     subst (IsFound (take a.len a.room.now) a.bytes.now head) (sym c.saturating_sub-from.ensures)
-    (found c.heads_grow.ensures a.room.now c.copy.new.room a.bytes.now a.len c.min-count.result c.requires.short c.requires.room c.min-count.ensures
+    (found c.law_heads_grow.ensures a.room.now c.copy.new.room a.bytes.now a.len c.min-count.result c.requires.short c.requires.room c.min-count.ensures
     c.requires.none c.copy.ensures.copied (Ok head) c.in-Head.ensures.reads head refl c.in-Head.ensures.fits)
 
 pub returns-then-may_change-clause-looks : goal.returns-then-may_change-clause-looks
 returns-then-may_change-clause-looks c =
     let a = c.args in
     let why = c.in-NotUsed.why in
-    waits c.heads_grow.ensures a.room.now c.copy.new.room a.bytes.now a.len c.min-count.result c.requires.short c.requires.room c.min-count.ensures
+    waits c.law_heads_grow.ensures a.room.now c.copy.new.room a.bytes.now a.len c.min-count.result c.requires.short c.requires.room c.min-count.ensures
     c.requires.none c.copy.ensures.copied (Err why) c.in-NotUsed.ensures.reads c.if-have-lt-HEAD_ROOM.true (c.if-may_change.ensures.changes refl)
 
 pub returns-else-have-lt-HEAD_ROOM-clause-looks : goal.returns-else-have-lt-HEAD_ROOM-clause-looks
@@ -26,9 +26,9 @@ returns-else-have-lt-HEAD_ROOM-clause-looks c =
     let why = c.in-NotUsed.why in
     elim c.else-have-lt-HEAD_ROOM.branch [
       | else-have-lt-HEAD_ROOM-via-then-have-lt-HEAD_ROOM+else-may_change w ↦
-          told_unused c.heads_grow.ensures a.room.now c.copy.new.room a.bytes.now a.len c.min-count.result c.requires.short c.requires.room c.min-count.ensures
+          told_unused c.law_heads_grow.ensures a.room.now c.copy.new.room a.bytes.now a.len c.min-count.result c.requires.short c.requires.room c.min-count.ensures
           c.requires.none c.copy.ensures.copied (Err why) c.in-NotUsed.ensures.reads why refl (w.if-may_change.ensures.stays refl)
       | else-have-lt-HEAD_ROOM-via-else-have-lt-HEAD_ROOM w ↦
-          full_unused c.heads_grow.ensures a.room.now c.copy.new.room a.bytes.now a.len c.min-count.result c.requires.short c.requires.room c.min-count.ensures
+          full_unused c.law_heads_grow.ensures a.room.now c.copy.new.room a.bytes.now a.len c.min-count.result c.requires.short c.requires.room c.min-count.ensures
           c.requires.none c.copy.ensures.copied (Err why) c.in-NotUsed.ensures.reads why refl (omega (arith, w.if-have-lt-HEAD_ROOM.false))
     ]

@@ -23,7 +23,7 @@ returns g c =
         goes_on = λ request came is. (e.goes_on true request came (is, λ _. refl)).0;
         reports = λ book p q before distinct among named agrees opens serves kept enough.
             subst (λ o. IsSome o) (sym c.report.ensures.standing)
-            (fetching_reports c.whole_answers_report.ensures.served c.fronts_are_read.ensures.answers.one (UnlessTold lost answers) p
+            (fetching_reports c.law_whole_answers_report.ensures.served c.law_fronts_are_read.ensures.answers.one (UnlessTold lost answers) p
             (serves_untold answers lost p serves kept) q book before c.args.client.now c.exchange_up_to.new.client
             (g.T.Transport.count c.args.transport.now) (g.T.Transport.count c.exchange_up_to.new.source) c.args.tries distinct among named agrees opens e.fetches e.ends enough);
       },

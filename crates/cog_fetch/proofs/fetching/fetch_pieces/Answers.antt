@@ -22,7 +22,7 @@ returns g c =
         goes_on = e.goes_on;
         reports = λ book p q before distinct among named agrees spoken opens serves kept enough.
             subst (λ o. IsSome o) (sym c.report.ensures.standing)
-            (fetching_reports c.whole_answers_report.ensures.served c.fronts_are_read.ensures.answers.one (TakenOf speaks answers lost) p
+            (fetching_reports c.law_whole_answers_report.ensures.served c.law_fronts_are_read.ensures.answers.one (TakenOf speaks answers lost) p
             (serves_taken speaks answers lost book spoken p serves kept) q book before c.args.client.now c.exchange_up_to.new.client
             (g.P.Pieces.count c.args.pieces.now) (g.P.Pieces.count c.exchange_up_to.new.source) c.args.tries distinct among named agrees opens e.fetches e.ends enough);
       },

@@ -1,5 +1,5 @@
 use Rattle.std.proofs.Common.{◌+◌, drop, slice_get, refl, sym, ap, ◌∙◌, arith}
-use Rattle.cog_reader.specs.Fields.{six}
+use Rattle.cog_reader.specs.GeoFields.{six}
 use Rattle.cog_reader.proofs.PlaceLemmas.{there, first_there, next_there, absent_there}
 use Rattle.cog_reader.proofs.fields.nth_place.Goals as goal
 use Rattle.cog_reader.proofs.fields.nth_place.Goals.{then-is_some+else-left-eq0, else-is_some}

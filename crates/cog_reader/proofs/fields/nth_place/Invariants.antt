@@ -1,6 +1,6 @@
 use Rattle.std.proofs.Common.{◌≡◌, drop, slice_get}
 use Rattle.std.specs.List.{filter_map}
-use Rattle.cog_reader.specs.Fields.{present_in}
+use Rattle.cog_reader.specs.GeoFields.{present_in}
 use Rattle.cog_reader.proofs.fields.nth_place.Given as goal
 
 abbrev pub invariant-loop-place : goal.invariant-loop-place

@@ -6,8 +6,8 @@ use Rattle.tiff_dir.specs.Keys.{KeySource, IsFaultOfKeys}
 use Rattle.tiff_dir.specs.Walk.{WalkAgrees}
 use Rattle.geokeys.specs.Doubles.{doubles_in}
 use Rattle.geokeys.specs.Keys.{AreKeys, IsKeyError}
-use Rattle.cog_reader.specs.Fields.{geo_bytes, IsReadOf}
-use Rattle.cog_reader.specs.Step.{IsInfoError}
+use Rattle.cog_reader.specs.GeoFields.{geo_bytes, IsReadOf}
+use Rattle.cog_reader.specs.ReaderStep.{IsInfoError}
 use Rattle.cog_reader.proofs.InfoLemmas.{file_parts, info_error, info_sound, items_are, parts_source, passed_on, sides_told}
 use Rattle.cog_reader.proofs.info.info.Goals as goal
 
@@ -27,7 +27,7 @@ returns-clause-info c f agrees read =
     let named = c.order-order.ensures.order f agrees in
     let parts = file_parts f x _ _ _ _ _ _ read c.requires.read c.parts-parts.ensures.parts in
     let source = parts_source f o x _ _ _ _ _ _ named c.parts-parts.ensures.typed read c.requires.read parts in record {
-      sound = info_sound f x (c.what_comes.ensures.clean c.args.walk.now f agrees c.requires.ended) read c.requires.read (λ fault bad. c.in_ok-geo.ensures.sound fault (subst (λ (s : KeySource). IsFaultOfKeys s fault) (sym source) bad));
+      sound = info_sound f x (c.law_what_comes.ensures.clean c.args.walk.now f agrees c.requires.ended) read c.requires.read (λ fault bad. c.in_ok-geo.ensures.sound fault (subst (λ (s : KeySource). IsFaultOfKeys s fault) (sym source) bad));
       order = o;
       order_is = named;
       sides_are = ap (map Some) c.in_ok-sides.ensures ∙ sides_told f c.levels.result.now (c.levels.ensures.levels f agrees);

@@ -1,5 +1,5 @@
 use Rattle.std.proofs.Common.{◌+◌, ◌*◌, [], Some, arith, ap, refl, sym, ◌∙◌}
-use Rattle.geokeys.proofs.Head.{number_there, bad_version, bad_revision, bad_size}
+use Rattle.geokeys.proofs.KeyDirectoryHeader.{number_there, bad_version, bad_revision, bad_size}
 use Rattle.geokeys.proofs.entry.head_of.Goals as goal
 use Rattle.geokeys.proofs.entry.head_of.Goals.{then-version-ne1-via-then-version-ne1, then-version-ne1-via-else-version-ne1+then-revision-ne1, then-version-ne1-via-else-version-ne1+else-revision-ne1+then-directory-from}
 

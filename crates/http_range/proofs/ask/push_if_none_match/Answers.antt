@@ -1,5 +1,5 @@
 use Rattle.std.proofs.Common.{◌++◌, ◌∙◌, ap, List, ℕ, codes}
-use Rattle.http_parts.specs.Text.{line}
+use Rattle.http_fields.specs.Text.{line}
 use Rattle.http_range.proofs.ask.push_if_none_match.Goals as goal
 
 pub returns : goal.returns

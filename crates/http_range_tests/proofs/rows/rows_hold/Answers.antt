@@ -14,10 +14,10 @@ pub returns-clause-answers : goal.returns-clause-answers
 returns-clause-answers c = answers_are
 
 pub returns-clause-messages : goal.returns-clause-messages
-returns-clause-messages c = messages_are c.messages_stay.ensures.tested
+returns-clause-messages c = messages_are c.law_messages_stay.ensures.tested
 
 pub returns-clause-conditions : goal.returns-clause-conditions
 returns-clause-conditions c = conditions_are
 
 pub returns-clause-streams : goal.returns-clause-streams
-returns-clause-streams c = streams_are c.messages_stay.ensures.tested
+returns-clause-streams c = streams_are c.law_messages_stay.ensures.tested

@@ -15,7 +15,7 @@ returns-in_default-clause-refused c =
     let size : length (take done out) ≡ done = length-take-le done out kept.fits in
     let left : length (drop done out) ≡ length c.args.out.now - length (take done out) = omega (arith, length-drop done out, size, c.loop-at.auto.out) in (
       refl,
-      not_packed c.one_text.ensures.packet c.args.row seg (take done out) c.loop-at.at room (length c.args.out.now) kept.packs
+      not_packed c.law_one_text.ensures.packet c.args.row seg (take done out) c.loop-at.at room (length c.args.out.now) kept.packs
           (subst (λ n. HasRoom c.args.row n room) (sym size) kept.has) c.loop-at-test.true
           (subst (λ n. HasNoFirst (drop c.loop-at.at seg) (min room n)) left
           (subst (λ l. HasNoFirst (drop c.loop-at.at seg) (min room (length l))) (take_rest out done)
@@ -44,6 +44,6 @@ returns-then-done-out-clause-refused c =
     let size : length (take done out) ≡ done = length-take-le done out kept.fits in
     let whole : take c.loop-at.at seg ≡ seg = take_all c.loop-at.at seg c.loop-at-test.false in (
       refl,
-      not_filled c.one_text.ensures.text c.args.row seg (take done out) (length c.args.out.now) (subst (λ b. Packs c.args.row b (take done out)) whole kept.packs)
+      not_filled c.law_one_text.ensures.text c.args.row seg (take done out) (length c.args.out.now) (subst (λ b. Packs c.args.row b (take done out)) whole kept.packs)
           (omega (arith, size, c.if-done-out.true, c.loop-at.auto.out)),
     )

@@ -1,6 +1,6 @@
 use Rattle.std.proofs.Common.{◌≡◌, ◌-◌, ◌*◌, take, map, min, max}
 use Rattle.std.specs.List.{range_with_len}
-use Rattle.tiff_dir.specs.declared.limits.TheConstants.{BLOCK_SIZE}
+use Rattle.extents.specs.declared.limits.TheConstants.{BLOCK_SIZE}
 use Rattle.range_cache.specs.Cache.{blocks_in, byte_at}
 use Rattle.range_cache.proofs.blocks.copy.Given as goal
 

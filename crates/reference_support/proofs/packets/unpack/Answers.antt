@@ -10,6 +10,6 @@ loop-at-preserved c = unpacked_more c.args.row c.args.bytes.now c.loop-at.at c.i
     (subst (λ bs. PushesNext c.args.row bs c.loop-at.out.items c.push_packet.new.out.items c.in_ok-len.field-0) (rest_of c.args.bytes.now c.loop-at.at) c.in_ok-len.ensures))
 
 pub returns-in-None-clause-refused : goal.returns-in-None-clause-refused
-returns-in-None-clause-refused c = not_packed c.one_text.ensures.packet c.args.row c.loop-at.at c.args.bytes.now c.loop-at.out.items c.loop-at.invariant (omega (arith, c.loop-at-test.true))
+returns-in-None-clause-refused c = not_packed c.law_one_text.ensures.packet c.args.row c.loop-at.at c.args.bytes.now c.loop-at.out.items c.loop-at.invariant (omega (arith, c.loop-at-test.true))
     (subst (PushesNext c.args.row (drop c.loop-at.at c.args.bytes.now) c.loop-at.out.items c.push_packet.new.out.items) c.in-None.is
     (subst (λ bs. PushesNext c.args.row bs c.loop-at.out.items c.push_packet.new.out.items c.in_ok-len.field-0) (rest_of c.args.bytes.now c.loop-at.at) c.in_ok-len.ensures))

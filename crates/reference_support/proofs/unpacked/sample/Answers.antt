@@ -29,7 +29,7 @@ returns-clause-none c =
     let l = layout_of c.in-Some-2.level in
     let modest : modest_level c.args.file.now c.args.n ≡ Some l = sym c.in_ok-level.ensures.level ∙ ap (option_map layout_of) c.in-Some-2.is in
     let tile = subst (λ t. IsTile c.args.file.now c.args.n l t c.in-Some-3.plain.items) c.tile_at.ensures (rw c.in-Some-3.is at c.in_ok-plain.ensures) in
-    λ some. no_sample c.one_text.ensures.text c.args.file.now c.in-Some.order c.args.n c.args.x c.args.y c.args.c l c.in-Some-3.plain.items c.sample_in.result (sym c.order_of.ensures ∙ c.in-Some.is) modest tile
+    λ some. no_sample c.law_one_text.ensures.text c.args.file.now c.in-Some.order c.args.n c.args.x c.args.y c.args.c l c.in-Some-3.plain.items c.sample_in.result (sym c.order_of.ensures ∙ c.in-Some.is) modest tile
     (c.sample_in.ensures ∙ ap (λ p. sample_in c.in-Some.order l.bits c.deref.result.now p) c.place_in_tile-place.ensures.place
     ∙ ap (λ xs. sample_in c.in-Some.order l.bits xs (place_in_tile l c.args.x c.args.y c.args.c)) c.deref.ensures.value)
 

@@ -44,7 +44,7 @@ returns-clause-none c = λ column row.
     let plain = c.in_ok-plain.plain.now.items in
     let there = tile_there f c.args.n l _ c.args.tiles.now c.requires.tiles t c.in_ok-get.field-0.now c.in_ok-plain.plain.now c.in_ok-get.ensures.lookup.3.0 c.in_ok-get.ensures.lookup.1 (sym c.in_ok-plain.ensures.value) in
     let tile : IsTile f c.args.n l (tile_at l.grid c.args.x c.args.y) plain = subst (λ k. IsTile f c.args.n l k plain) c.tile_at.ensures there in
-    no_sample c.one_text.ensures.text f c.in_ok-order.order c.args.n c.args.x c.args.y c.args.c l plain c.sample_in.result (sym c.order_of.ensures ∙ c.in_ok-order.was) c.requires.level tile
+    no_sample c.law_one_text.ensures.text f c.in_ok-order.order c.args.n c.args.x c.args.y c.args.c l plain c.sample_in.result (sym c.order_of.ensures ∙ c.in_ok-order.was) c.requires.level tile
     (c.sample_in.ensures ∙ ap (λ p. sample_in c.in_ok-order.order l.bits c.deref.result.now p) c.place_in_tile-place.ensures.place
     ∙ ap (λ xs. sample_in c.in_ok-order.order l.bits xs (place_in_tile l c.args.x c.args.y c.args.c)) c.deref.ensures.value)
 

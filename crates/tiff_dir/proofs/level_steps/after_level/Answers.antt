@@ -45,14 +45,14 @@ returns-then-not-is_depth-clause-agrees c = λ f is level sound before.
     let bad : is_depth (short_or es BITS_PER_SAMPLE 0) ≡ false = rw (← c.short-bits.ensures) (sym c.is_depth.ensures ∙ c.if-not-is_depth.true) in
     level_fault f c.args.index (Unsupported BITS_PER_SAMPLE) c.requires.few has.there level (bits_unsupported f c.args.index es has read.met read.counts samples bad)
 
-pub returns-then-short-ne1-clause-agrees : goal.returns-then-short-ne1-clause-agrees
-returns-then-short-ne1-clause-agrees c = λ f is level sound before.
+pub returns-then-short-ne-UNSIGNED_INTEGER-clause-agrees : goal.returns-then-short-ne-UNSIGNED_INTEGER-clause-agrees
+returns-then-short-ne-UNSIGNED_INTEGER-clause-agrees c = λ f is level sound before.
     let es = entries_of c.args.table.now in
     let has : HasTable f c.args.index es = has_table f _ _ _ _ _ is c.args.table.now.whole in
     let read = c.in_ok-draft.ensures.read in
     let three : short_or es SAMPLES_PER_PIXEL 1 ≢ 3 = λ e. c.if-draft-eq-COLOUR_SAMPLES.false (draft_samples es c.in_ok-draft.draft read ∙ e) in
     let samples = one_sample es read.values three in
-    let bad : short_or es SAMPLE_FORMAT 1 ≢ 1 = λ e. c.if-short-ne1.true (c.short.ensures ∙ e) in
+    let bad : short_or es SAMPLE_FORMAT 1 ≢ 1 = λ e. c.if-short-ne-UNSIGNED_INTEGER.true (c.short.ensures ∙ e) in
     level_fault f c.args.index (Unsupported SAMPLE_FORMAT) c.requires.few has.there level (formats_unsupported f c.args.index es has read.met read.counts samples bad)
 
 pub returns-clause-agrees : goal.returns-clause-agrees
@@ -65,7 +65,7 @@ returns-clause-agrees c = λ f is level sound before.
     let three : short_or es SAMPLES_PER_PIXEL 1 ≢ 3 = λ e. c.if-draft-eq-COLOUR_SAMPLES.false (draft_samples es c.in_ok-draft.draft read ∙ e) in
     let samples = one_sample es read.values three in
     let depth : is_depth (short_or es BITS_PER_SAMPLE 0) ≡ true = rw (← c.short-bits.ensures) (sym c.is_depth.ensures ∙ c.if-not-is_depth.false) in
-    let one : short_or es SAMPLE_FORMAT 1 ≡ 1 = sym c.short.ensures ∙ c.if-short-ne1.false in
+    let one : short_or es SAMPLE_FORMAT 1 ≡ 1 = sym c.short.ensures ∙ c.if-short-ne-UNSIGNED_INTEGER.false in
     let bits = bits_inside f c.args.index es has read.met read.counts samples depth in
     let formats = formats_inside f c.args.index es has read.met read.counts samples one in
     then_also (EndsDirectory f c.args.index) (StepsOn f (Table c.args.table.now.order c.args.index c.args.table.now.at c.args.table.now.entries)) (IsFaultOfDirectories f) c.finish.result

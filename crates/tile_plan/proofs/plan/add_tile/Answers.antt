@@ -3,7 +3,7 @@ use Rattle.std.specs.Result.{OnOk}
 use Rattle.std.specs.Vec.{vec_len}
 use Rattle.std.proofs.lemmas.Grind.{common_steps}
 use Rattle.std.proofs.lemmas.List.{set-get_or}
-use Rattle.tiff_dir.specs.Walk.{extent_of_span}
+use Rattle.extents.specs.Extent.{extent_of_span}
 use Rattle.tile_plan.specs.Groups.{with_tile}
 use Rattle.tile_plan.specs.Plan.{group_of}
 use Rattle.tile_plan.proofs.GroupLemmas.{added_join, added_apart, added_first}

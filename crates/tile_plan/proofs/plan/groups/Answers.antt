@@ -2,7 +2,7 @@ use Rattle.std.proofs.Common.{◌≡◌, ◌*◌, ◌<◌, ◌++◌, ◌∷◌, 
 use Rattle.std.specs.List.{range_with_len}
 use Rattle.tiff_dir.specs.Level.{tile_total}
 use Rattle.tiff_dir.specs.Described.{grid_of}
-use Rattle.tiff_dir.specs.Walk.{extent_of_span}
+use Rattle.extents.specs.Extent.{extent_of_span}
 use Rattle.tiff_dir.specs.declared.fault.WalkError.TheVariants.{File}
 use Rattle.tile_plan.specs.Block.{tile_of_block}
 use Rattle.tile_plan.specs.Groups.{grouped}
@@ -26,10 +26,10 @@ returns-in_err-span-clause-refused c =
     let range = range_in c.args.order l c.args.offsets.now c.args.counts.now in
     let fault = c.in_err-span.field-0.0 in
     let less : c.loop-n.n < b.columns * b.rows = omega (arith, c.loop-n-test.true, c.count-n-end.ensures, c.loop-n.auto.n-end) in
-    passed_on c.from_residual.result (File fault) (IsPlanError range l c.args.rect c.args.complete) c.from_residual.ensures.1 (record {
+    passed_on c.from_residual.result (File fault) (IsPlanError range l c.args.rect c.args.file_length) c.from_residual.ensures.1 (record {
       tile = tile_of_block b c.loop-n.n;
       among = among_counted (tile_of_block b) (b.columns * b.rows) (tiles_of l c.args.rect) c.loop-n.n c.of-block.ensures.tiles less;
-      wrong = subst (λ t. IsTileFault l c.args.complete (range t) fault) c.tile-tile.ensures c.in_err-span.ensures.refused;
+      wrong = subst (λ t. IsTileFault l c.args.file_length (range t) fault) c.tile-tile.ensures c.in_err-span.ensures.refused;
     })
 
 pub returns-in_err-span-clause-stands : goal.returns-in_err-span-clause-stands
@@ -41,9 +41,9 @@ returns-in_err-span-clause-stands c f q p =
     let less : c.loop-n.n < b.columns * b.rows = omega (arith, c.loop-n-test.true, c.count-n-end.ensures, c.loop-n.auto.n-end) in
     let t = tile_of_block b c.loop-n.n in
     let among = among_counted (tile_of_block b) (b.columns * b.rows) (tiles_of l c.args.rect) c.loop-n.n c.of-block.ensures.tiles less in
-    let wrong = subst (λ t. IsTileFault l c.args.complete (range t) fault) c.tile-tile.ensures c.in_err-span.ensures.refused in
+    let wrong = subst (λ t. IsTileFault l c.args.file_length (range t) fault) c.tile-tile.ensures c.in_err-span.ensures.refused in
     passed_on c.from_residual.result (File fault) (IsErrorOf f q) c.from_residual.ensures.1
-    (stands f q c.args.order l c.args.rect c.args.complete c.args.offsets.now c.args.counts.now t fault p among
+    (stands f q c.args.order l c.args.rect c.args.file_length c.args.offsets.now c.args.counts.now t fault p among
     (subst (λ t. IsRangeOf f c.args.rect.level t (range t)) c.tile-tile.ensures (c.in_err-span.ensures.values f c.args.rect.level p.order_is p.layout_is p.offsets_are p.counts_are)) wrong)
 
 pub loop-n-preserved : goal.loop-n-preserved
@@ -58,8 +58,8 @@ loop-n-preserved c =
       groups = c.in_ok-add_tile.ensures ∙ ap (λ gs. added gs tile (extent_of_span c.in_ok-span.span)) c.loop-n.invariant.groups
           ∙ ap (added (grouped range before) tile) c.in_ok-span.ensures.range ∙ sym (grouped_more range before tile)
           ∙ ap (λ t. grouped range (before ++ t ∷ [])) c.tile-tile.ensures ∙ ap (grouped range) (counted_all (tile_of_block b) n);
-      known = below_more (λ k. IsKnown c.args.order l c.args.complete c.args.offsets.now c.args.counts.now (tile_of_block b k)) n c.loop-n.invariant.known
-          (subst (IsKnown c.args.order l c.args.complete c.args.offsets.now c.args.counts.now) c.tile-tile.ensures (record { within = subst (λ t. t < tile_total (grid_of l)) (sym c.tile-tile.ensures) (c.of-block.ensures.within n (omega (arith, c.loop-n-test.true, c.count-n-end.ensures, c.loop-n.auto.n-end))); sound = c.in_ok-span.ensures.sound; values = c.in_ok-span.ensures.values }));
+      known = below_more (λ k. IsKnown c.args.order l c.args.file_length c.args.offsets.now c.args.counts.now (tile_of_block b k)) n c.loop-n.invariant.known
+          (subst (IsKnown c.args.order l c.args.file_length c.args.offsets.now c.args.counts.now) c.tile-tile.ensures (record { within = subst (λ t. t < tile_total (grid_of l)) (sym c.tile-tile.ensures) (c.of-block.ensures.within n (omega (arith, c.loop-n-test.true, c.count-n-end.ensures, c.loop-n.auto.n-end))); sound = c.in_ok-span.ensures.sound; values = c.in_ok-span.ensures.values }));
     }
 
 pub returns-clause-groups : goal.returns-clause-groups
@@ -68,7 +68,7 @@ returns-clause-groups c =
     let l = c.args.level.now in
     let all : c.loop-n.n ≡ b.columns * b.rows = omega (arith, c.loop-n-test.false, c.count-n-end.ensures, c.loop-n.auto.n-end) in
     let tiles = ap (λ k. map (tile_of_block b) (range_with_len 0 k)) all ∙ c.of-block.ensures.tiles in
-    planned c.args.order l c.args.rect c.args.complete c.args.offsets.now c.args.counts.now (tile_of_block b) c.loop-n.n c.loop-n.groups.items tiles c.loop-n.invariant.known c.loop-n.invariant.groups
+    planned c.args.order l c.args.rect c.args.file_length c.args.offsets.now c.args.counts.now (tile_of_block b) c.loop-n.n c.loop-n.groups.items tiles c.loop-n.invariant.known c.loop-n.invariant.groups
 
 pub returns-clause-needed : goal.returns-clause-needed
 returns-clause-needed c f q p =
@@ -76,5 +76,5 @@ returns-clause-needed c f q p =
     let l = c.args.level.now in
     let all : c.loop-n.n ≡ b.columns * b.rows = omega (arith, c.loop-n-test.false, c.count-n-end.ensures, c.loop-n.auto.n-end) in
     let tiles = ap (λ k. map (tile_of_block b) (range_with_len 0 k)) all ∙ c.of-block.ensures.tiles in
-    needed f q c.args.order l c.args.rect c.args.complete c.args.offsets.now c.args.counts.now (tile_of_block b) c.loop-n.n c.loop-n.groups.items p tiles c.loop-n.invariant.known
-    (planned c.args.order l c.args.rect c.args.complete c.args.offsets.now c.args.counts.now (tile_of_block b) c.loop-n.n c.loop-n.groups.items tiles c.loop-n.invariant.known c.loop-n.invariant.groups)
+    needed f q c.args.order l c.args.rect c.args.file_length c.args.offsets.now c.args.counts.now (tile_of_block b) c.loop-n.n c.loop-n.groups.items p tiles c.loop-n.invariant.known
+    (planned c.args.order l c.args.rect c.args.file_length c.args.offsets.now c.args.counts.now (tile_of_block b) c.loop-n.n c.loop-n.groups.items tiles c.loop-n.invariant.known c.loop-n.invariant.groups)

@@ -9,5 +9,5 @@ use Rattle.tile_plan.proofs.plan.groups.Given as goal
 abbrev pub invariant-loop-n : goal.invariant-loop-n
 invariant-loop-n l = record {
   groups : map group_of l.groups.items ≡ grouped (range_in l.order l.level l.offsets l.counts) (map (tile_of_block l.block) (range_with_len 0 l.n));
-  known : (k : ℕ) → k < l.n → IsKnown l.order l.level l.complete l.offsets l.counts (tile_of_block l.block k);
+  known : (k : ℕ) → k < l.n → IsKnown l.order l.level l.file_length l.offsets l.counts (tile_of_block l.block k);
 }

@@ -13,5 +13,5 @@ pub returns-clause-shows : goal.returns-clause-shows
 returns-clause-shows c =
     let a = c.in-Ok.ensures in
     let P : Option (List ℕ) → Type 0 = λ carried. IsAbout c.args.name.now carried in
-    shown_answer c.fronts_are_read.ensures.answers c.args.server.now.catalogue c.args.name.now c.args.request.now c.in-Ok.answer.text.items a.response a.answers a.shows.text
+    shown_answer c.law_fronts_are_read.ensures.answers c.args.server.now.catalogue c.args.name.now c.args.request.now c.in-Ok.answer.text.items a.response a.answers a.shows.text
     (subst P a.shows.name (c.is_about.ensures.0 c.if-not-is_about.false))

@@ -28,7 +28,7 @@ returns-then-begun-eq0-clause-ok c =
 pub returns-then-not-self-clause-ok : goal.returns-then-not-self-clause-ok
 returns-then-not-self-clause-ok c =
     let a = c.args in
-    let l = c.parts_bring_blocks.ensures in
+    let l = c.law_parts_bring_blocks.ensures in
     let m = c.min-count.result in
     let bytes = a.bytes.now in
     let mid : 0 < a.self.now.next % 16384 = omega (arith, c.if-begun-eq0.false) in
@@ -47,7 +47,7 @@ returns-then-not-self-clause-ok c =
 pub returns-in_err-stored-clause-err : goal.returns-in_err-stored-clause-err
 returns-in_err-stored-clause-err c =
     let a = c.args in
-    let l = c.parts_bring_blocks.ensures in
+    let l = c.law_parts_bring_blocks.ensures in
     let m = c.min-count.result in
     let bytes = a.bytes.now in
     let mid : 0 < a.self.now.next % 16384 = omega (arith, c.if-begun-eq0.false) in
@@ -62,7 +62,7 @@ returns-in_err-stored-clause-err c =
 pub returns-clause-ok : goal.returns-clause-ok
 returns-clause-ok c =
     let a = c.args in
-    let l = c.parts_bring_blocks.ensures in
+    let l = c.law_parts_bring_blocks.ensures in
     let m = c.min-count.result in
     let bytes = a.bytes.now in
     let rest = c.split_at.ensures.back in
@@ -82,7 +82,7 @@ returns-clause-ok c =
             subst (λ (b : Body). length c.split_at.result.1.now ≤ b.left) (sym w.self-is) fits,
             subst (λ (b : Body). IsSeam b.next c.split_at.result.1.now) (sym w.self-is) next,
             λ head start body is.
-                let few = few_stored c.stores_are_counted.ensures.few c.pieces_bring_blocks.ensures.few head a.self.now.span start (body ++ take m bytes) c.requires.sound.few in
+                let few = few_stored c.law_stores_are_counted.ensures.few c.law_pieces_bring_blocks.ensures.few head a.self.now.span start (body ++ take m bytes) c.requires.sound.few in
                 subst (λ (b : Body). IsBody head start (body ++ take m bytes) b c.copy.new.room c.if-count-lacking.cache) (sym w.self-is)
                 (subst (IsBody head start (body ++ take m bytes) _ c.copy.new.room) (sym w.cache-is)
                 (finishes l.cuts l.edges l.none l.beside l.stored l.counted l.unwanted head start body bytes a.part.now a.self.now a.cache.now m is

@@ -9,7 +9,7 @@ use Rattle.cog_client.proofs.body.Body.go_on.Goals as goal
 pub returns-in_err-count-clause-err : goal.returns-in_err-count-clause-err
 returns-in_err-count-clause-err c =
     let a = c.args in
-    let l = c.parts_bring_blocks.ensures in
+    let l = c.law_parts_bring_blocks.ensures in
     let bytes = a.bytes.now in
     let e = c.in_err-count.ensures.err in
     let stops : Stops a.self.now a.part.now a.cache.now bytes c.store.new.cache =
@@ -24,14 +24,14 @@ returns-in_err-count-clause-err c =
 pub returns-clause-ok : goal.returns-clause-ok
 returns-clause-ok c =
     let a = c.args in
-    let l = c.parts_bring_blocks.ensures in
+    let l = c.law_parts_bring_blocks.ensures in
     let bytes = a.bytes.now in
     let e = c.in_ok-count.ensures.ok in
     let same = c.keep.ensures.same in
     let sums = c.saturating_add-self.ensures ∙ ap (λ (k : ℕ). min (a.self.now.count + k) 4294967295) e.1 in
     elim c.requires.seam [
       | inl edge ↦ λ head start body is.
-          let few = few_stored c.stores_are_counted.ensures.few c.pieces_bring_blocks.ensures.few head a.self.now.span start (body ++ bytes) c.requires.sound.few in
+          let few = few_stored c.law_stores_are_counted.ensures.few c.law_pieces_bring_blocks.ensures.few head a.self.now.span start (body ++ bytes) c.requires.sound.few in
           subst (λ (b : Body). IsBody head start (body ++ bytes) b c.keep.new.part c.store.new.cache) (sym same)
           (edge_goes l.edges l.stored l.counted head start body bytes a.part.now a.self.now a.cache.now is c.requires.all edge.0 edge.1
           c.saturating_add-self.result c.keep.new.self.keeps c.keep.new.part c.store.new.cache

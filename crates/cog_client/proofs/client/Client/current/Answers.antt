@@ -32,7 +32,7 @@ returns-then-eq-clause-current c =
 pub returns-then-eq-clause-same : goal.returns-then-eq-clause-same
 returns-then-eq-clause-same c _ =
     let tag : tag_of c.args.self.now ≡ Some c.in-Some.source.tag = tag_is c.args.self.now c.in-Some.source (ap (λ (k : ClientState). k.source) (sym c.self.view_is) ∙ c.in-Some.is) in
-    let law = c.fronts_are_read.ensures.checks in
+    let law = c.law_fronts_are_read.ensures.checks in
     let equal = (bytes_eq-Decides c.in-Some.source.tag c.in-Seen.tag).0 (sym c.if-eq.ensures) in
     λ name book honest. (
       carried name honest.response.name (IsSomeAnd (published name honest.catalogue) (λ p. In p book)) honest.named

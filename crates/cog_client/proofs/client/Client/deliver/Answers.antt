@@ -3,7 +3,7 @@ use Rattle.cog_client.specs.declared.delivered.Delivered.{Delivered}
 use Rattle.cog_client.specs.Client.{ClientState}
 use Rattle.cog_client.specs.FedClient.{Fed}
 use Rattle.cog_client.specs.Keeps.{DeliversKeeping, StopsDelivery}
-use Rattle.cog_client.proofs.ArrivalLemmas.{then_err, then_if_ok}
+use Rattle.cog_client.proofs.PartialAnswerLemmas.{then_err, then_if_ok}
 use Rattle.cog_client.proofs.GoingLemmas.{refused}
 use Rattle.cog_client.proofs.client.Client.deliver.Goals as goal
 

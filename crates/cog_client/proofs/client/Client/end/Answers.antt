@@ -2,16 +2,16 @@ use Rattle.std.proofs.Common.{rules, ◌≡◌, ℕ, List, Option, true, sym, ap
 use Rattle.std.specs.Prelude.{is_some, not}
 use Rattle.std.proofs.lemmas.Bool.{false≢true}
 use Rattle.tiff_dir.specs.declared.query.Query.{Query}
-use Rattle.tiff_dir.specs.declared.span.Span.{Span}
+use Rattle.extents.specs.declared.span.Span.{Span}
 use Rattle.range_cache.specs.Cache.{Blocks}
-use Rattle.cog_client.specs.declared.asking.Asking.{Asking}
+use Rattle.cog_client.specs.declared.request_options.RequestOptions.{RequestOptions}
 use Rattle.cog_client.specs.declared.report.Report.{Report}
-use Rattle.cog_client.specs.declared.source.Source.{Source}
+use Rattle.cog_client.specs.declared.revision_reader.RevisionReader.{RevisionReader}
 use Rattle.cog_client.specs.declared.delivered.Delivered.{Delivered}
-use Rattle.cog_client.specs.Arrival.{IsTold}
+use Rattle.cog_client.specs.PartialAnswer.{IsTold}
 use Rattle.cog_client.specs.Client.{ClientState, IsClient, asked_of, feed_of, report_of}
 use Rattle.cog_client.specs.FedClient.{Fed}
-use Rattle.cog_client.specs.Feeding.{Feed, nothing_fed}
+use Rattle.cog_client.specs.AnswerPhase.{Feed, nothing_fed}
 use Rattle.cog_client.specs.Keeps.{DeliversKeeping, StopsDelivery}
 use Rattle.cog_client.specs.Take.{IsIgnored}
 use Rattle.cog_client.proofs.ClientLemmas.{known}
@@ -26,7 +26,7 @@ record LetGo (old mid : ClientState) (what : Delivered) : Type 0 where
   sound : IsClient mid
   told : IsTold (feed_of old) what
 
-let_go : (e e' : Feed) (how : Asking) (h n : List ℕ) (q : Option Query) (a : Option Span) (s : Option Source) (b : Blocks) (r : Option Report) (old : ClientState) (what : Delivered)
+let_go : (e e' : Feed) (how : RequestOptions) (h n : List ℕ) (q : Option Query) (a : Option Span) (s : Option RevisionReader) (b : Blocks) (r : Option Report) (old : ClientState) (what : Delivered)
     → known e how h n q a s b r ≡ old → e' ≡ nothing_fed → IsClient (known e how h n q a s b r) → IsTold e what → LetGo old (known e' how h n q a s b r) what
 unfolding feed_of
 let_go e e' how h n q a s b r old what view empty sound told = record {
@@ -40,28 +40,28 @@ unfolding feed_of
 returns-in-Ignored-clause-ok c s p fed =
     let i = c.self.inside in
     let mid = known c.clear.new.self i.how i.host.items i.name.items i.query i.asked i.source i.cache i.report in
-    let gone = let_go i.arrival c.clear.new.self i.how i.host.items i.name.items i.query i.asked i.source i.cache i.report c.args.self.now c.told-told.result c.self.view_is c.clear.ensures c.self.invariant c.told-told.ensures in
+    let gone = let_go i.partial_answer c.clear.new.self i.how i.host.items i.name.items i.query i.asked i.source i.cache i.report c.args.self.now c.told-told.result c.self.view_is c.clear.ensures c.self.invariant c.told-told.ensures in
     let w = c.in-Ignored.field-0 in
     subst (λ (d : Delivered). DeliversKeeping s p d mid) (sym c.in-Ignored.is)
-    (ended_ignored c.fronts_are_read.ensures.answers c.lengths_are_known.ensures c.stored_are_held.ensures.front c.parts_bring_blocks.ensures.beside s p c.args.self.now mid gone.dropped gone.sound w (subst (IsTold (feed_of c.args.self.now)) c.in-Ignored.is gone.told) fed)
+    (ended_ignored c.law_fronts_are_read.ensures.answers c.law_lengths_are_known.ensures c.law_stored_are_held.ensures.front c.law_parts_bring_blocks.ensures.beside s p c.args.self.now mid gone.dropped gone.sound w (subst (IsTold (feed_of c.args.self.now)) c.in-Ignored.is gone.told) fed)
 
 pub returns-in-Ignored-clause-kept : goal.returns-in-Ignored-clause-kept
 returns-in-Ignored-clause-kept c = λ _.
     let i = c.self.inside in
-    (let_go i.arrival c.clear.new.self i.how i.host.items i.name.items i.query i.asked i.source i.cache i.report c.args.self.now c.told-told.result c.self.view_is c.clear.ensures c.self.invariant c.told-told.ensures).dropped
+    (let_go i.partial_answer c.clear.new.self i.how i.host.items i.name.items i.query i.asked i.source i.cache i.report c.args.self.now c.told-told.result c.self.view_is c.clear.ensures c.self.invariant c.told-told.ensures).dropped
 
 pub returns-in_err-missing : goal.returns-in_err-missing
 unfolding feed_of asked_of
 returns-in_err-missing c =
     let i = c.self.inside in
     let mid = known c.clear.new.self i.how i.host.items i.name.items i.query i.asked i.source i.cache i.report in
-    let gone = let_go i.arrival c.clear.new.self i.how i.host.items i.name.items i.query i.asked i.source i.cache i.report c.args.self.now c.told-told.result c.self.view_is c.clear.ensures c.self.invariant c.told-told.ensures in
+    let gone = let_go i.partial_answer c.clear.new.self i.how i.host.items i.name.items i.query i.asked i.source i.cache i.report c.args.self.now c.told-told.result c.self.view_is c.clear.ensures c.self.invariant c.told-told.ensures in
     let e = c.in_err-missing.ensures in
     let used : IsIgnored c.told-told.result → ⊥ = not_ignored c.told-told.result c.in_default.not-Ignored in
     record {
       ok = search rules;
       err = refused c.from_residual.result ((s : ClientState) → (p : List ℕ) → Fed s p c.args.self.now → StopsDelivery s p c.missing.new.self) (λ (s : ClientState) (p : List ℕ) (fed : Fed s p c.args.self.now).
-          stops c.fronts_are_read.ensures.answers c.lengths_are_known.ensures c.stored_are_held.ensures.front c.parts_bring_blocks.ensures.beside s p c.args.self.now mid gone.dropped gone.sound c.told-told.result gone.told used fed c.missing.new.self e.goes e.asked e.err (e.feed ∙ c.clear.ensures));
+          stops c.law_fronts_are_read.ensures.answers c.law_lengths_are_known.ensures c.law_stored_are_held.ensures.front c.law_parts_bring_blocks.ensures.beside s p c.args.self.now mid gone.dropped gone.sound c.told-told.result gone.told used fed c.missing.new.self e.goes e.asked e.err (e.feed ∙ c.clear.ensures));
       dropped = λ is. absurd (used (subst IsIgnored (sym (subst (λ (e : Feed). IsTold e c.told-told.result) is gone.told)) tt));
       kept = λ is. absurd (used (subst IsIgnored (sym (subst (λ (e : Feed). IsTold e c.told-told.result) is gone.told)) tt));
       ended = e.feed ∙ c.clear.ensures;
@@ -72,12 +72,12 @@ unfolding feed_of asked_of
 returns-in_ok-missing c =
     let i = c.self.inside in
     let mid = known c.clear.new.self i.how i.host.items i.name.items i.query i.asked i.source i.cache i.report in
-    let gone = let_go i.arrival c.clear.new.self i.how i.host.items i.name.items i.query i.asked i.source i.cache i.report c.args.self.now c.told-told.result c.self.view_is c.clear.ensures c.self.invariant c.told-told.ensures in
+    let gone = let_go i.partial_answer c.clear.new.self i.how i.host.items i.name.items i.query i.asked i.source i.cache i.report c.args.self.now c.told-told.result c.self.view_is c.clear.ensures c.self.invariant c.told-told.ensures in
     let e = c.in_ok-missing.ensures in
     let used : IsIgnored c.told-told.result → ⊥ = not_ignored c.told-told.result c.in_default.not-Ignored in
     record {
       ok = λ (s : ClientState) (p : List ℕ) (fed : Fed s p c.args.self.now).
-          ends c.fronts_are_read.ensures.answers c.lengths_are_known.ensures c.stored_are_held.ensures.front c.parts_bring_blocks.ensures.beside s p c.args.self.now mid gone.dropped gone.sound c.told-told.result gone.told used fed c.missing.new.self c.in_ok-missing.field-0 e.goes e.asked e.ok (e.feed ∙ c.clear.ensures);
+          ends c.law_fronts_are_read.ensures.answers c.law_lengths_are_known.ensures c.law_stored_are_held.ensures.front c.law_parts_bring_blocks.ensures.beside s p c.args.self.now mid gone.dropped gone.sound c.told-told.result gone.told used fed c.missing.new.self c.in_ok-missing.field-0 e.goes e.asked e.ok (e.feed ∙ c.clear.ensures);
       err = tt;
       dropped = λ is. absurd (used (subst IsIgnored (sym (subst (λ (e : Feed). IsTold e c.told-told.result) is gone.told)) tt));
       kept = λ is. absurd (used (subst IsIgnored (sym (subst (λ (e : Feed). IsTold e c.told-told.result) is gone.told)) tt));
@@ -89,12 +89,12 @@ unfolding feed_of report_of
 returns-else-is_none c =
     let i = c.self.inside in
     let mid = known c.clear.new.self i.how i.host.items i.name.items i.query i.asked i.source i.cache i.report in
-    let gone = let_go i.arrival c.clear.new.self i.how i.host.items i.name.items i.query i.asked i.source i.cache i.report c.args.self.now c.told-told.result c.self.view_is c.clear.ensures c.self.invariant c.told-told.ensures in
+    let gone = let_go i.partial_answer c.clear.new.self i.how i.host.items i.name.items i.query i.asked i.source i.cache i.report c.args.self.now c.told-told.result c.self.view_is c.clear.ensures c.self.invariant c.told-told.ensures in
     let used : IsIgnored c.told-told.result → ⊥ = not_ignored c.told-told.result c.in_default.not-Ignored in
     let stands : is_some i.report ≡ true = c.is_none.ensures ∙ ap not c.if-is_none.false in
     record {
       ok = λ (s : ClientState) (p : List ℕ) (fed : Fed s p c.args.self.now).
-          absurd (false≢true (sym (ap is_some (silent c.fronts_are_read.ensures.answers c.lengths_are_known.ensures c.stored_are_held.ensures.front c.parts_bring_blocks.ensures.beside s p c.args.self.now mid gone.dropped gone.sound c.told-told.result gone.told used fed)) ∙ stands));
+          absurd (false≢true (sym (ap is_some (silent c.law_fronts_are_read.ensures.answers c.law_lengths_are_known.ensures c.law_stored_are_held.ensures.front c.law_parts_bring_blocks.ensures.beside s p c.args.self.now mid gone.dropped gone.sound c.told-told.result gone.told used fed)) ∙ stands));
       err = tt;
       dropped = λ is. absurd (used (subst IsIgnored (sym (subst (λ (e : Feed). IsTold e c.told-told.result) is gone.told)) tt));
       kept = λ is. absurd (used (subst IsIgnored (sym (subst (λ (e : Feed). IsTold e c.told-told.result) is gone.told)) tt));

@@ -2,7 +2,7 @@ use Rattle.std.proofs.Common.{ℕ, ◌-◌, List, ◌++◌, length, take, drop, 
 use Rattle.cog_client.specs.Client.{ClientState}
 use Rattle.cog_client.specs.FedClient.{Fed, FedBefore}
 use Rattle.cog_client.specs.Keeps.{StopsDelivery}
-use Rattle.cog_client.proofs.ArrivalLemmas.{sliced, then_err, then_ok}
+use Rattle.cog_client.proofs.PartialAnswerLemmas.{sliced, then_err, then_ok}
 use Rattle.cog_client.proofs.client.Client.feed.Goals as goal
 
 pub returns-clause-ok : goal.returns-clause-ok

@@ -17,7 +17,7 @@ returns-in_err-text-clause-err c =
     let i = c.self.inside in
     let e = c.in_ok-span.ensures in
     let before = known c.clear.new.self i.how i.host.items i.name.items i.query None i.source i.cache i.report in
-    let old : GoesOnKeeping c.args.self.now before = subst (λ k. GoesOnKeeping k before) c.self.view_is (unasked i.arrival c.clear.new.self c.clear.ensures i.how i.host.items i.name.items i.query i.asked i.source i.cache i.report c.self.invariant) in
+    let old : GoesOnKeeping c.args.self.now before = subst (λ k. GoesOnKeeping k before) c.self.view_is (unasked i.partial_answer c.clear.new.self c.clear.ensures i.how i.host.items i.name.items i.query i.asked i.source i.cache i.report c.self.invariant) in
     refused c.from_residual-in_err-text.result (StopsAsking c.args.self.now c.missing.new.self) (record {
       busy = busy c.args.self.now (ap (λ (k : ClientState). is_some (query_of k)) (sym c.self.view_is) ∙ c.is_none.ensures ∙ ap not c.if-is_none.false)
           (ap (λ (k : ClientState). is_some (report_of k)) (sym c.self.view_is) ∙ sym c.is_some.ensures ∙ c.if-is_some.false);
@@ -31,8 +31,8 @@ pub invariant_of-self-3 : goal.invariant_of-self-3
 invariant_of-self-3 c =
     let j = c.self-2.inside in
     let e = c.in_ok-span.ensures in
-    let m : known j.arrival j.how j.host.items j.name.items j.query j.asked j.source j.cache j.report ≡ c.missing.new.self = c.self-2.view_is in
-    asking_sound j.arrival j.how j.host.items j.name.items j.query j.asked j.source j.cache j.report c.in-Some.span c.self-2.invariant
+    let m : known j.partial_answer j.how j.host.items j.name.items j.query j.asked j.source j.cache j.report ≡ c.missing.new.self = c.self-2.view_is in
+    asking_sound j.partial_answer j.how j.host.items j.name.items j.query j.asked j.source j.cache j.report c.in-Some.span c.self-2.invariant
     (ap report_of m ∙ e.silent (ap is_some c.in-Some.is))
     (subst (λ k. AsksFor k (revision_of k) (ahead_of k) c.in-Some.span) (sym m) (subst (Misses c.missing.new.self) c.in-Some.is e.ok))
 
@@ -43,15 +43,15 @@ returns-clause-ok c =
     let j = c.self-2.inside in
     let e = c.in_ok-span.ensures in
     let before = known c.clear.new.self i.how i.host.items i.name.items i.query None i.source i.cache i.report in
-    let old : GoesOnKeeping c.args.self.now before = subst (λ k. GoesOnKeeping k before) c.self.view_is (unasked i.arrival c.clear.new.self c.clear.ensures i.how i.host.items i.name.items i.query i.asked i.source i.cache i.report c.self.invariant) in
-    let m : known j.arrival j.how j.host.items j.name.items j.query j.asked j.source j.cache j.report ≡ c.missing.new.self = c.self-2.view_is in
+    let old : GoesOnKeeping c.args.self.now before = subst (λ k. GoesOnKeeping k before) c.self.view_is (unasked i.partial_answer c.clear.new.self c.clear.ensures i.how i.host.items i.name.items i.query i.asked i.source i.cache i.report c.self.invariant) in
+    let m : known j.partial_answer j.how j.host.items j.name.items j.query j.asked j.source j.cache j.report ≡ c.missing.new.self = c.self-2.view_is in
     let silent = ap report_of m ∙ e.silent (ap is_some c.in-Some.is) in
     let asks = subst (λ k. AsksFor k (revision_of k) (ahead_of k) c.in-Some.span) (sym m) (subst (Misses c.missing.new.self) c.in-Some.is e.ok) in
     let some : is_some i.query ≡ true = c.is_none.ensures ∙ ap not c.if-is_none.false in
     let quiet : is_some i.report ≡ false = sym c.is_some.ensures ∙ c.if-is_some.false in
-    requested j.arrival j.how j.host.items j.name.items j.query j.asked j.source j.cache j.report c.in-Some.span c.args.self.now c.in_ok-text.text.items
+    requested j.partial_answer j.how j.host.items j.name.items j.query j.asked j.source j.cache j.report c.in-Some.span c.args.self.now c.in_ok-text.text.items
     (subst (GoesOnKeeping c.args.self.now) (sym m) (goes_trans c.args.self.now before c.missing.new.self old e.goes)) c.self-2.invariant
-    (asking_sound j.arrival j.how j.host.items j.name.items j.query j.asked j.source j.cache j.report c.in-Some.span c.self-2.invariant silent asks)
+    (asking_sound j.partial_answer j.how j.host.items j.name.items j.query j.asked j.source j.cache j.report c.in-Some.span c.self-2.invariant silent asks)
     (ap (λ (k : ClientState). is_some (query_of k)) (sym c.self.view_is) ∙ some) (ap (λ (k : ClientState). is_some (report_of k)) (sym c.self.view_is) ∙ quiet) silent (ap feed_of m ∙ e.feed ∙ c.clear.ensures)
     (c.in_ok-text.ensures.text ∙ ap (λ k. request_for k (Some c.in-Some.span)) (sym m))
     (subst (λ k. CanAsk (host_of k) (name_of k) c.in-Some.span.first c.in-Some.span.last (tag_of k)) (sym m) c.request_for.ensures.lawful) asks
@@ -61,7 +61,7 @@ unfolding asked_of query_of report_of feed_of
 returns-then-is_none-clause-ok c =
     let i = c.self.inside in
     let new = known c.clear.new.self i.how i.host.items i.name.items i.query None i.source i.cache i.report in
-    let goes : GoesOnKeeping c.args.self.now new = subst (λ k. GoesOnKeeping k new) c.self.view_is (unasked i.arrival c.clear.new.self c.clear.ensures i.how i.host.items i.name.items i.query i.asked i.source i.cache i.report c.self.invariant) in
+    let goes : GoesOnKeeping c.args.self.now new = subst (λ k. GoesOnKeeping k new) c.self.view_is (unasked i.partial_answer c.clear.new.self c.clear.ensures i.how i.host.items i.name.items i.query i.asked i.source i.cache i.report c.self.invariant) in
     let idle : IsIdle new = elim c.then-is_none.branch [
       | then-is_none-via-then-is_none w ↦ inl (none_of i.query (c.is_none.ensures ∙ ap not w.if-is_none.true))
       | then-is_none-via-else-is_none+then-is_some w ↦ inr (sym w.is_some.ensures ∙ w.if-is_some.true)
@@ -74,7 +74,7 @@ returns-in_err-span-clause-err c =
     let i = c.self.inside in
     let e = c.in_err-span.ensures in
     let before = known c.clear.new.self i.how i.host.items i.name.items i.query None i.source i.cache i.report in
-    let old : GoesOnKeeping c.args.self.now before = subst (λ k. GoesOnKeeping k before) c.self.view_is (unasked i.arrival c.clear.new.self c.clear.ensures i.how i.host.items i.name.items i.query i.asked i.source i.cache i.report c.self.invariant) in
+    let old : GoesOnKeeping c.args.self.now before = subst (λ k. GoesOnKeeping k before) c.self.view_is (unasked i.partial_answer c.clear.new.self c.clear.ensures i.how i.host.items i.name.items i.query i.asked i.source i.cache i.report c.self.invariant) in
     refused c.from_residual.result (StopsAsking c.args.self.now c.missing.new.self) (record {
       busy = busy c.args.self.now (ap (λ (k : ClientState). is_some (query_of k)) (sym c.self.view_is) ∙ c.is_none.ensures ∙ ap not c.if-is_none.false)
           (ap (λ (k : ClientState). is_some (report_of k)) (sym c.self.view_is) ∙ sym c.is_some.ensures ∙ c.if-is_some.false);
@@ -90,7 +90,7 @@ returns-in_default-clause-ok c =
     let i = c.self.inside in
     let e = c.in_ok-span.ensures in
     let before = known c.clear.new.self i.how i.host.items i.name.items i.query None i.source i.cache i.report in
-    let old : GoesOnKeeping c.args.self.now before = subst (λ k. GoesOnKeeping k before) c.self.view_is (unasked i.arrival c.clear.new.self c.clear.ensures i.how i.host.items i.name.items i.query i.asked i.source i.cache i.report c.self.invariant) in
+    let old : GoesOnKeeping c.args.self.now before = subst (λ k. GoesOnKeeping k before) c.self.view_is (unasked i.partial_answer c.clear.new.self c.clear.ensures i.how i.host.items i.name.items i.query i.asked i.source i.cache i.report c.self.invariant) in
     let quiet : is_some i.report ≡ false = sym c.is_some.ensures ∙ c.if-is_some.false in
     let quiet_before : is_some (report_of c.args.self.now) ≡ false = ap (λ (k : ClientState). is_some (report_of k)) (sym c.self.view_is) ∙ quiet in
     requests_none c.args.self.now c.missing.new.self (goes_trans c.args.self.now before c.missing.new.self old e.goes)

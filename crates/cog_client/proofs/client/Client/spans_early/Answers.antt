@@ -2,8 +2,8 @@ use Rattle.std.proofs.Common.{◌≡◌, Some, arith, sym, ap, subst, ◌∙◌}
 use Rattle.std.specs.Prelude.{IfOk, IfSome}
 use Rattle.std.specs.List.{All}
 use Rattle.std.proofs.lemmas.Result.{IfOk-weaker}
-use Rattle.cached_reader.specs.Going.{work}
-use Rattle.cached_reader.specs.Early as reading
+use Rattle.cog_reader.specs.Going.{work}
+use Rattle.cog_reader.specs.Early as reading
 use Rattle.cog_client.specs.Client.{IsReadingOf}
 use Rattle.cog_client.specs.Early.{AsksNothingEarly, IsEarly, LeaveNothing}
 use Rattle.cog_client.proofs.ClientLemmas.{known}
@@ -15,27 +15,27 @@ returns-clause-early c =
     let i = c.self.inside in
     let asked = c.in-Some-Some.asked in
     let s = c.in-Some-Some.source in
-    let made = known i.arrival i.how i.host.items i.name.items i.query (Some asked) (Some s) i.cache i.report in
+    let made = known i.partial_answer i.how i.host.items i.name.items i.query (Some asked) (Some s) i.cache i.report in
     let reads : IsReadingOf i.query i.report s = subst (λ o. IfSome o (IsReadingOf i.query i.report)) c.in-Some-Some.is-1 c.self.invariant.reading in
     let is : made ≡ c.args.self.now =
-    sym (ap (λ o. known i.arrival i.how i.host.items i.name.items i.query o i.source i.cache i.report) c.in-Some-Some.is-0
-    ∙ ap (λ o. known i.arrival i.how i.host.items i.name.items i.query (Some asked) o i.cache i.report) c.in-Some-Some.is-1) ∙ c.self.view_is in
+    sym (ap (λ o. known i.partial_answer i.how i.host.items i.name.items i.query o i.source i.cache i.report) c.in-Some-Some.is-0
+    ∙ ap (λ o. known i.partial_answer i.how i.host.items i.name.items i.query (Some asked) o i.cache i.report) c.in-Some-Some.is-1) ∙ c.self.view_is in
     subst (λ k. IfOk c.early_spans.result (λ spans. All (IsEarly k) spans.items)) is
     (IfOk-weaker c.early_spans.result (λ spans. All (reading.IsEarly (work s.reader i.cache) i.how.ahead asked) spans.items) (λ spans. All (IsEarly made) spans.items)
-    (λ spans all. early_spans i.arrival i.how i.host.items i.name.items i.query asked s i.cache i.report (sym reads.0) spans.items all) c.early_spans.ensures.early)
+    (λ spans all. early_spans i.partial_answer i.how i.host.items i.name.items i.query asked s i.cache i.report (sym reads.0) spans.items all) c.early_spans.ensures.early)
 
 pub returns-clause-none : goal.returns-clause-none
 returns-clause-none c = λ nothing.
     let i = c.self.inside in
     let some = c.if-ahead-eq0.false in
-    absurd (asks_early i.arrival i.how i.host.items i.name.items i.query i.asked i.source i.cache i.report c.if-self.false (λ near. omega (arith, near, some))
+    absurd (asks_early i.partial_answer i.how i.host.items i.name.items i.query i.asked i.source i.cache i.report c.if-self.false (λ near. omega (arith, near, some))
     (subst AsksNothingEarly (sym c.self.view_is) nothing))
 
 pub returns-clause-sure : goal.returns-clause-sure
 returns-clause-sure c = λ nothing.
     let i = c.self.inside in
     let some = c.if-ahead-eq0.false in
-    absurd (asks_early i.arrival i.how i.host.items i.name.items i.query i.asked i.source i.cache i.report c.if-self.false (λ near. omega (arith, near, some))
+    absurd (asks_early i.partial_answer i.how i.host.items i.name.items i.query i.asked i.source i.cache i.report c.if-self.false (λ near. omega (arith, near, some))
     (subst AsksNothingEarly (sym c.self.view_is) nothing))
 
 pub returns-clause-order : goal.returns-clause-order
@@ -43,11 +43,11 @@ returns-clause-order c =
     let i = c.self.inside in
     let asked = c.in-Some-Some.asked in
     let s = c.in-Some-Some.source in
-    let made = known i.arrival i.how i.host.items i.name.items i.query (Some asked) (Some s) i.cache i.report in
+    let made = known i.partial_answer i.how i.host.items i.name.items i.query (Some asked) (Some s) i.cache i.report in
     let reads : IsReadingOf i.query i.report s = subst (λ o. IfSome o (IsReadingOf i.query i.report)) c.in-Some-Some.is-1 c.self.invariant.reading in
     let is : made ≡ c.args.self.now =
-    sym (ap (λ o. known i.arrival i.how i.host.items i.name.items i.query o i.source i.cache i.report) c.in-Some-Some.is-0
-    ∙ ap (λ o. known i.arrival i.how i.host.items i.name.items i.query (Some asked) o i.cache i.report) c.in-Some-Some.is-1) ∙ c.self.view_is in
+    sym (ap (λ o. known i.partial_answer i.how i.host.items i.name.items i.query o i.source i.cache i.report) c.in-Some-Some.is-0
+    ∙ ap (λ o. known i.partial_answer i.how i.host.items i.name.items i.query (Some asked) o i.cache i.report) c.in-Some-Some.is-1) ∙ c.self.view_is in
     subst (λ k. IfOk c.early_spans.result (λ spans. LeaveNothing k spans.items)) is
     (IfOk-weaker c.early_spans.result (λ spans. All (reading.LeavesNothing (work s.reader i.cache) asked spans.items) spans.items) (λ spans. LeaveNothing made spans.items)
-    (λ spans all. nothing_left i.arrival i.how i.host.items i.name.items i.query asked s i.cache i.report (sym reads.0) spans.items all) c.early_spans.ensures.order)
+    (λ spans all. nothing_left i.partial_answer i.how i.host.items i.name.items i.query asked s i.cache i.report (sym reads.0) spans.items all) c.early_spans.ensures.order)

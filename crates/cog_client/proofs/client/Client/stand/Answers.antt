@@ -12,11 +12,11 @@ returns-in-Some-conclude-clause-goes c =
     let s = c.in-Some-source.source in
     let x = c.in-Some-conclude.report in
     let silent : i.report ≡ None = subst (λ (k : ClientState). report_of k ≡ None) (sym c.self.view_is) c.requires in
-    let is : known i.arrival i.how i.host.items i.name.items i.query i.asked i.source i.cache i.report ≡ known i.arrival i.how i.host.items i.name.items (Some q) i.asked (Some s) i.cache None =
-    known_is i.arrival i.how i.host.items i.name.items i.query (Some q) i.asked i.source (Some s) i.cache i.report None c.in-Some.is c.in-Some-source.is silent in
-    subst (λ k. GoesOnKeeping k (known i.arrival i.how i.host.items i.name.items i.query None (Some c.conclude.new.self) i.cache (Some x))) (sym is ∙ c.self.view_is)
-    (subst (λ o. GoesOnKeeping (known i.arrival i.how i.host.items i.name.items (Some q) i.asked (Some s) i.cache None) (known i.arrival i.how i.host.items i.name.items o None (Some c.conclude.new.self) i.cache (Some x))) (sym c.in-Some.is)
-    (concluded i.arrival i.how i.host.items i.name.items q i.asked s c.conclude.new.self i.cache x c.nothing_comes.ensures.unasked (subst IsClient is c.self.invariant) c.in-Some-conclude.ensures))
+    let is : known i.partial_answer i.how i.host.items i.name.items i.query i.asked i.source i.cache i.report ≡ known i.partial_answer i.how i.host.items i.name.items (Some q) i.asked (Some s) i.cache None =
+    known_is i.partial_answer i.how i.host.items i.name.items i.query (Some q) i.asked i.source (Some s) i.cache i.report None c.in-Some.is c.in-Some-source.is silent in
+    subst (λ k. GoesOnKeeping k (known i.partial_answer i.how i.host.items i.name.items i.query None (Some c.conclude.new.self) i.cache (Some x))) (sym is ∙ c.self.view_is)
+    (subst (λ o. GoesOnKeeping (known i.partial_answer i.how i.host.items i.name.items (Some q) i.asked (Some s) i.cache None) (known i.partial_answer i.how i.host.items i.name.items o None (Some c.conclude.new.self) i.cache (Some x))) (sym c.in-Some.is)
+    (concluded i.partial_answer i.how i.host.items i.name.items q i.asked s c.conclude.new.self i.cache x c.law_nothing_comes.ensures.unasked (subst IsClient is c.self.invariant) c.in-Some-conclude.ensures))
 
 pub returns-in-Some-conclude-clause-feed : goal.returns-in-Some-conclude-clause-feed
 unfolding feed_of

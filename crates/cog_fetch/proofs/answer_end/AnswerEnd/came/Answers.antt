@@ -12,12 +12,12 @@ returns-in-Head-clause-ok c =
 
 pub returns-in-Body-clause-ok : goal.returns-in-Body-clause-ok
 returns-in-Body-clause-ok c =
-    λ front. came_behind c.heads_grow.ensures c.args.self.now _ front c.args.bytes.now c.in-Body.left c.in-Body.is c.lacks_behind-self.ensures refl
+    λ front. came_behind c.law_heads_grow.ensures c.args.self.now _ front c.args.bytes.now c.in-Body.left c.in-Body.is c.lacks_behind-self.ensures refl
     (search rules)
 
 pub returns-in-End-clause-ok : goal.returns-in-End-clause-ok
 returns-in-End-clause-ok c =
-    λ front. came_on c.heads_grow.ensures c.args.self.now _ front c.args.bytes.now c.in-End.is c.in-End.is (search rules)
+    λ front. came_on c.law_heads_grow.ensures c.args.self.now _ front c.args.bytes.now c.in-End.is c.in-End.is (search rules)
 
 pub returns-in-Body-clause-few : goal.returns-in-Body-clause-few
 returns-in-Body-clause-few c lacking = absurd (no_head c.in-Body.left _ (sym c.lacks_behind-self.ensures ∙ lacking))

@@ -9,14 +9,14 @@ pub invariant_of-self : goal.invariant_of-self
 invariant_of-self g c =
     let i = c.self.inside in
     let bytes = g.B.Bytes.bytes c.args.bytes.now in
-    let state = subst (λ (o : Option PendingQuery). IfSome o (λ a. IsState i.complete i.walk i.kept a.state)) c.in-Some.is c.self.invariant.state in
-    given_sound i.complete bytes i.walk i.walk i.kept i.kept i.unpacked c.unpack.new.unpacked c.in-Some.pending c.unpack.new.self (c.unpack.ensures.gives i.complete i.walk c.self.invariant.kept state)
+    let state = subst (λ (o : Option PendingQuery). IfSome o (λ a. IsState i.file_length i.walk i.kept a.state)) c.in-Some.is c.self.invariant.state in
+    given_sound i.file_length bytes i.walk i.walk i.kept i.kept i.tile_cache c.unpack.new.tile_cache c.in-Some.pending c.unpack.new.self (c.unpack.ensures.gives i.file_length i.walk c.self.invariant.kept state)
 
 pub returns : goal.returns
 returns g c =
     let i = c.self.inside in
     let bytes = g.B.Bytes.bytes c.args.bytes.now in
-    let state = subst (λ (o : Option PendingQuery). IfSome o (λ a. IsState i.complete i.walk i.kept a.state)) c.in-Some.is c.self.invariant.state in
-    let old : c.args.self.now ≡ holding i.complete i.walk i.kept i.unpacked c.in-Some.pending = sym c.self.view_is ∙ ap (λ (o : Option PendingQuery). record { complete = i.complete; walk = i.walk; kept = i.kept; tiles = i.unpacked; pending = o }) c.in-Some.is in
-    subst (λ (r : ReaderState). Takes bytes r (holding i.complete i.walk i.kept c.unpack.new.unpacked c.unpack.new.self)) (sym old)
-    (given_takes i.complete bytes i.walk i.walk i.kept i.kept i.unpacked c.unpack.new.unpacked c.in-Some.pending c.unpack.new.self c.unpack.ensures.query (c.unpack.ensures.gives i.complete i.walk c.self.invariant.kept state))
+    let state = subst (λ (o : Option PendingQuery). IfSome o (λ a. IsState i.file_length i.walk i.kept a.state)) c.in-Some.is c.self.invariant.state in
+    let old : c.args.self.now ≡ holding i.file_length i.walk i.kept i.tile_cache c.in-Some.pending = sym c.self.view_is ∙ ap (λ (o : Option PendingQuery). record { file_length = i.file_length; walk = i.walk; kept = i.kept; tiles = i.tile_cache; pending = o }) c.in-Some.is in
+    subst (λ (r : ReaderState). Takes bytes r (holding i.file_length i.walk i.kept c.unpack.new.tile_cache c.unpack.new.self)) (sym old)
+    (given_takes i.file_length bytes i.walk i.walk i.kept i.kept i.tile_cache c.unpack.new.tile_cache c.in-Some.pending c.unpack.new.self c.unpack.ensures.query (c.unpack.ensures.gives i.file_length i.walk c.self.invariant.kept state))

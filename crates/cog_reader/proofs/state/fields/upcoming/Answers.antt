@@ -10,4 +10,4 @@ span_of-requires c =
 
 pub returns : goal.returns
 returns c w k =
-    later_field c.args.complete w k c.args.fields.now c.args.index c.in_ok-place.place c.span_of.result (sym c.in_ok-place.ensures.place) c.span_of.ensures
+    later_field c.args.file_length w k c.args.fields.now c.args.index c.in_ok-place.place c.span_of.result (sym c.in_ok-place.ensures.place) c.span_of.ensures

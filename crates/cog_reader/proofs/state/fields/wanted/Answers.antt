@@ -9,4 +9,4 @@ span_of-requires c =
     some_bytes x.places c.in_ok-place.ensures.typed x.given c.in_ok-place.place (sym c.in_ok-place.ensures.next)
 
 pub returns : goal.returns
-returns c w k = next_field c.args.complete w k c.args.fields.now c.in_ok-place.place c.span_of.result (sym c.in_ok-place.ensures.next) c.span_of.ensures
+returns c w k = next_field c.args.file_length w k c.args.fields.now c.in_ok-place.place c.span_of.result (sym c.in_ok-place.ensures.next) c.span_of.ensures

@@ -2,15 +2,15 @@ use Rattle.std.proofs.Common.{◌≡◌, ◌*◌, ap, sym, ◌∙◌}
 use Rattle.tiff_dir.specs.Profile.{sample_bytes}
 use Rattle.tile_plan.specs.declared.asked.Rectangle.{Rectangle}
 use Rattle.tile_plan.specs.Levels.{rectangle_of}
-use Rattle.tile_mosaic.specs.Samples.{samples_in}
+use Rattle.tile_plan.specs.Samples.{samples_in}
 use Rattle.cog_reader.proofs.SoundLemmas.{whole_window}
 use Rattle.cog_reader.proofs.state.tiles.into_window.Goals as goal
 
 pub returns-clause-window : goal.returns-clause-window
 returns-clause-window c f q u done clean =
     let a = c.args.arrays.now in
-    let m = c.args.mosaic in record {
-      window = whole_window f q a m (samples_in a.level.bits c.into_pixels.result.items) u (c.all_are_painted.ensures f q a m u done) clean (c.into_pixels.ensures.samples f q u done);
+    let m = c.args.builder in record {
+      window = whole_window f q a m (samples_in a.level.bits c.into_pixels.result.items) u (c.law_all_are_painted.ensures f q a m u done) clean (c.into_pixels.ensures.samples f q u done);
       asked = rectangle_of m.picture.rectangle;
       asked_is = u.planned.rectangle_is;
       width = ap (λ (r : Rectangle). r.w) c.rectangle-w.ensures;

@@ -21,9 +21,9 @@ returns-then-closes-2-clause-ok c =
     let s = c.self.inside in
     let held = c.whole.new.self.bytes.items in
     let view = ap (λ (h : List ℕ). record { held = h; waiting = waiting_of s.outgoing; is_closed = s.closed; answers = s.answers; is_over = s.over; dropped = s.dropped }) c.whole.ensures.held ∙ c.self.view_is in
-    let out = subst (λ (k : Catalogue). IsOutgoing k (take c.in-Some.n held) c.answer.new.self) c.files.ensures
-    (subst (λ (bytes : List ℕ). IsOutgoing (map publication c.files.result.now) (take c.in-Some.n bytes) c.answer.new.self) c.deref.ensures.value c.in_ok-answer.ensures.ok) in
-    goes_last c.args.server.now.catalogue held (waiting_of s.outgoing) s.closed s.over s.answers s.dropped c.in-Some.n c.args.self.now c.answer.new.self c.closes.result
+    let out = subst (λ (k : Catalogue). IsOutgoing k (take c.in-Some.n held) c.answer.new.self c.in_ok-status.status) c.files.ensures
+    (subst (λ (bytes : List ℕ). IsOutgoing (map publication c.files.result.now) (take c.in-Some.n bytes) c.answer.new.self c.in_ok-status.status) c.deref.ensures.value c.in_ok-status.ensures.ok) in
+    goes_last c.args.server.now.catalogue held (waiting_of s.outgoing) s.closed s.over s.answers s.dropped c.in-Some.n c.args.self.now c.answer.new.self c.in_ok-status.status c.closes.result
     view c.closes.ensures c.if-closes.false (nothing_waits (waiting_of s.outgoing) c.is_waiting.result c.is_waiting.ensures c.if-is_waiting.false) c.in-Some.ensures.found.0 c.in-Some.ensures.found.1 out
     c.closes-2.result c.closes-2.ensures c.if-closes-2.true c.skip.new.self.bytes.items c.skip-then-closes-2.new.self.bytes.items c.len-self-inside.result c.skip.ensures.left (omega (arith, c.len-self-inside.ensures, c.skip.new.self.bytes.ok.0)) c.skip-then-closes-2.ensures.left
 
@@ -32,14 +32,14 @@ returns-else-closes-2-clause-ok c =
     let s = c.self.inside in
     let held = c.whole.new.self.bytes.items in
     let view = ap (λ (h : List ℕ). record { held = h; waiting = waiting_of s.outgoing; is_closed = s.closed; answers = s.answers; is_over = s.over; dropped = s.dropped }) c.whole.ensures.held ∙ c.self.view_is in
-    let out = subst (λ (k : Catalogue). IsOutgoing k (take c.in-Some.n held) c.answer.new.self) c.files.ensures
-    (subst (λ (bytes : List ℕ). IsOutgoing (map publication c.files.result.now) (take c.in-Some.n bytes) c.answer.new.self) c.deref.ensures.value c.in_ok-answer.ensures.ok) in
-    goes_open c.args.server.now.catalogue held (waiting_of s.outgoing) s.closed s.over s.answers s.dropped c.in-Some.n c.args.self.now c.answer.new.self c.closes.result
+    let out = subst (λ (k : Catalogue). IsOutgoing k (take c.in-Some.n held) c.answer.new.self c.in_ok-status.status) c.files.ensures
+    (subst (λ (bytes : List ℕ). IsOutgoing (map publication c.files.result.now) (take c.in-Some.n bytes) c.answer.new.self c.in_ok-status.status) c.deref.ensures.value c.in_ok-status.ensures.ok) in
+    goes_open c.args.server.now.catalogue held (waiting_of s.outgoing) s.closed s.over s.answers s.dropped c.in-Some.n c.args.self.now c.answer.new.self c.in_ok-status.status c.closes.result
     view c.closes.ensures c.if-closes.false (nothing_waits (waiting_of s.outgoing) c.is_waiting.result c.is_waiting.ensures c.if-is_waiting.false) c.in-Some.ensures.found.0 c.in-Some.ensures.found.1 out
     c.closes-2.result c.closes-2.ensures c.if-closes-2.false c.skip.new.self.bytes.items c.skip.ensures.left
 
-pub returns-in_err-answer-clause-rests : goal.returns-in_err-answer-clause-rests
-returns-in_err-answer-clause-rests c rests =
+pub returns-in_err-status-clause-rests : goal.returns-in_err-status-clause-rests
+returns-in_err-status-clause-rests c rests =
     let s = c.self.inside in
     let held = c.whole.new.self.bytes.items in
     let view = ap (λ (h : List ℕ). record { held = h; waiting = waiting_of s.outgoing; is_closed = s.closed; answers = s.answers; is_over = s.over; dropped = s.dropped }) c.whole.ensures.held ∙ c.self.view_is in

@@ -33,4 +33,5 @@ returns-clause-ok c =
           ∙ ap (λ (xs : List ℕ). xs ++ slice_range (unwrap_or (option_map rc_slice_items c.match-prepared.file) []) p.first p.end) head
           ∙ ap (λ (xs : List ℕ). head_text p.reply p.close ++ xs) body;
       close = refl;
+      status = c.status-status.ensures;
     }

@@ -31,4 +31,4 @@ returns-clause-ok c =
 
 pub returns-clause-others : goal.returns-clause-others
 returns-clause-others c =
-    others_stay c.publications_replace.ensures.replaces _ c.args.name.now c.args.self.now.catalogue _ refl (ap (λ (s : ServerState). s.catalogue) (returns-clause-ok c))
+    others_stay c.law_publications_replace.ensures.replaces _ c.args.name.now c.args.self.now.catalogue _ refl (ap (λ (s : ServerState). s.catalogue) (returns-clause-ok c))

@@ -1,15 +1,15 @@
-use Rattle.std.proofs.Common.{Bool, None, ◌++◌, length, drop, refl, sym, ap, ◌∙◌, subst, arith, length-append, length-take}
+use Rattle.std.proofs.Common.{None, ◌++◌, length, drop, refl, sym, ap, ◌∙◌, subst, arith, length-append, length-take}
 use Rattle.cog_server.specs.Serve.{read_failed, write_failed}
-use Rattle.cog_server.specs.Status.{EndsBy, GoesOn, Status}
+use Rattle.cog_server.specs.Status.{EndsBy, Status}
 use Rattle.cog_server.proofs.EndLemmas.{ends, ends_memory, ends_unread, ends_unsent, ends_with, told_by, unsent_flag}
-use Rattle.cog_server.proofs.ServeLemmas.{begins, less_to_answer, less_to_read, nothing_waits, reads, sent_whole, some_room, stands, stays, still_silent, went}
+use Rattle.cog_server.proofs.ServeLemmas.{answered, begins, less_to_answer, less_to_read, nothing_waits, reads, rested, sent_whole, some_room, stands, stays, still_silent, went}
 use Rattle.cog_server.proofs.server.Server.serve.Goals as goal
 
 pub returns-in_err-buffers-clause-served : goal.returns-in_err-buffers-clause-served
 returns-in_err-buffers-clause-served g c =
     let none = begins c.args.self.now.catalogue (g.R.Inlet.given c.args.r.now) (g.W.Outlet.taken c.args.w.now) (g.R.Inlet.is_over c.args.r.now) in
     ends_with _ _ _ _ _ _ _ _ _ c.from_residual.ensures.1 refl
-    (ends_memory (g.R.Inlet.is_over c.args.r.now) c.messages_stay.ensures.messages none refl refl)
+    (ends_memory (g.R.Inlet.is_over c.args.r.now) c.law_messages_stay.ensures.messages none refl refl)
 
 pub answers-init : goal.answers-init
 answers-init g c =
@@ -26,16 +26,16 @@ answers-init g c =
 pub returns-in_err-go_on-clause-served : goal.returns-in_err-go_on-clause-served
 returns-in_err-go_on-clause-served g c =
     ends_with _ _ _ _ _ _ _ _ _ c.from_residual-in_err-go_on.ensures.1 refl
-    (ends_memory (g.R.Inlet.is_over c.answers.r) c.messages_stay.ensures.messages c.answers.invariant.going c.answers.invariant.silent refl)
+    (ends_memory (g.R.Inlet.is_over c.answers.r) c.law_messages_stay.ensures.messages c.answers.invariant.going c.answers.invariant.silent refl)
 
 pub returns-in_err-send_waiting-clause-served : goal.returns-in_err-send_waiting-clause-served
 returns-in_err-send_waiting-clause-served g c =
     let s = c.answers.connection in
-    let law = c.messages_stay.ensures.messages in
-    let goes = subst (λ (b : Bool). GoesOn c.args.self.now.catalogue s c.go_on.new.self b) c.if-branch.true c.in_ok-go_on.ensures.ok in
+    let law = c.law_messages_stay.ensures.messages in
+    let goes = answered c.args.self.now.catalogue s c.go_on.new.self c.in_ok-go_on.field-0 c.is_some.result c.is_some.ensures c.if-is_some.true c.in_ok-go_on.ensures.ok in
     ends_with _ _ _ _ _ _ _ _ _ c.from_residual-in_err-send_waiting.ensures.1 refl
     (ends_unsent _ c.in_err-send_waiting.field-0.0 law c.answers.invariant.going c.answers.invariant.silent
-    (went law c.go_on.new.self c.answers.invariant.going goes) c.in_err-send_waiting.ensures.sent)
+    (went law c.go_on.new.self goes.0 c.answers.invariant.going goes.1) c.in_err-send_waiting.ensures.sent)
 
 pub returns-in_err-send_waiting-clause-read : goal.returns-in_err-send_waiting-clause-read
 returns-in_err-send_waiting-clause-read g c =
@@ -47,19 +47,19 @@ returns-in_err-send_waiting-clause-write g c =
     (unsent_flag _ _ _ _ c.in_err-send_waiting.field-0.0 c.in_err-send_waiting.ensures.sent).0
     ∙ sym (told_by write_failed c.from_residual-in_err-send_waiting.result c.in_err-send_waiting.field-0.0 c.from_residual-in_err-send_waiting.ensures.1)
 
-pub answers-smaller-then-branch : goal.answers-smaller-then-branch
-answers-smaller-then-branch g c =
-    let goes = subst (λ (b : Bool). GoesOn c.args.self.now.catalogue c.answers.connection c.go_on.new.self b) c.if-branch.true c.in_ok-go_on.ensures.ok in
-    less_to_answer c.go_on.new.self c.send_waiting.new.connection c.answers.invariant.going goes c.in_ok-send_waiting.ensures.written
+pub answers-smaller-then-is_some : goal.answers-smaller-then-is_some
+answers-smaller-then-is_some g c =
+    let goes = answered c.args.self.now.catalogue c.answers.connection c.go_on.new.self c.in_ok-go_on.field-0 c.is_some.result c.is_some.ensures c.if-is_some.true c.in_ok-go_on.ensures.ok in
+    less_to_answer c.go_on.new.self c.send_waiting.new.connection goes.0 c.answers.invariant.going goes.1 c.in_ok-send_waiting.ensures.written
 
-pub answers-preserved-then-branch : goal.answers-preserved-then-branch
-answers-preserved-then-branch g c =
-    let law = c.messages_stay.ensures.messages in
+pub answers-preserved-then-is_some : goal.answers-preserved-then-is_some
+answers-preserved-then-is_some g c =
+    let law = c.law_messages_stay.ensures.messages in
     let t = c.send_waiting.new.connection in
-    let goes = subst (λ (b : Bool). GoesOn c.args.self.now.catalogue c.answers.connection c.go_on.new.self b) c.if-branch.true c.in_ok-go_on.ensures.ok in
+    let goes = answered c.args.self.now.catalogue c.answers.connection c.go_on.new.self c.in_ok-go_on.field-0 c.is_some.result c.is_some.ensures c.if-is_some.true c.in_ok-go_on.ensures.ok in
     let sent = c.in_ok-send_waiting.ensures in
     record {
-      going = sent_whole t (went law c.go_on.new.self c.answers.invariant.going goes) sent.sent sent.written;
+      going = sent_whole t (went law c.go_on.new.self goes.0 c.answers.invariant.going goes.1) sent.sent sent.written;
       silent = nothing_waits c.go_on.new.self t sent.written;
       room = c.answers.invariant.room;
       reads = c.answers.invariant.reads;
@@ -68,16 +68,16 @@ answers-preserved-then-branch g c =
 
 pub returns-in-Some-clause-served : goal.returns-in-Some-clause-served
 returns-in-Some-clause-served g c =
-    let goes = subst (λ (b : Bool). GoesOn c.args.self.now.catalogue c.answers.connection c.go_on.new.self b) c.if-branch.false c.in_ok-go_on.ensures.ok in
-    ends c.messages_stay.ensures.messages c.in-Some.ended c.answers-answers.result (stays c.go_on.new.self goes.0 c.answers.invariant.going)
+    let goes = rested c.args.self.now.catalogue c.answers.connection c.go_on.new.self c.in_ok-go_on.field-0 c.is_some.result c.is_some.ensures c.if-is_some.false c.in_ok-go_on.ensures.ok in
+    ends c.law_messages_stay.ensures.messages c.in-Some.ended c.answers-answers.result (stays c.go_on.new.self goes.0 c.answers.invariant.going)
     c.in-Some.ensures c.answers-answers.ensures
 
 pub receive-requires-clause-some : goal.receive-requires-clause-some
 receive-requires-clause-some g c =
     let s = c.answers.connection in
     let s' = c.go_on.new.self in
-    let law = c.messages_stay.ensures.messages in
-    let goes = subst (λ (b : Bool). GoesOn c.args.self.now.catalogue s s' b) c.if-branch.false c.in_ok-go_on.ensures.ok in
+    let law = c.law_messages_stay.ensures.messages in
+    let goes = rested c.args.self.now.catalogue s s' c.in_ok-go_on.field-0 c.is_some.result c.is_some.ensures c.if-is_some.false c.in_ok-go_on.ensures.ok in
     let none : EndsBy s' None = rw c.in_default.is at c.ended.ensures in
     some_room law s' (stands c.args.self.now.catalogue s s' law goes c.answers.invariant.silent none)
 
@@ -88,8 +88,8 @@ pub answers-smaller : goal.answers-smaller
 answers-smaller g c =
     let s = c.answers.connection in
     let s' = c.go_on.new.self in
-    let law = c.messages_stay.ensures.messages in
-    let goes = subst (λ (b : Bool). GoesOn c.args.self.now.catalogue s s' b) c.if-branch.false c.in_ok-go_on.ensures.ok in
+    let law = c.law_messages_stay.ensures.messages in
+    let goes = rested c.args.self.now.catalogue s s' c.in_ok-go_on.field-0 c.is_some.result c.is_some.ensures c.if-is_some.false c.in_ok-go_on.ensures.ok in
     let none : EndsBy s' None = rw c.in_default.is at c.ended.ensures in
     less_to_read s s' c.receive.new.connection law goes.0 (stands c.args.self.now.catalogue s s' law goes c.answers.invariant.silent none)
     c.in_ok-receive.ensures
@@ -99,8 +99,8 @@ answers-preserved g c =
     let s = c.answers.connection in
     let s' = c.go_on.new.self in
     let t = c.receive.new.connection in
-    let law = c.messages_stay.ensures.messages in
-    let goes = subst (λ (b : Bool). GoesOn c.args.self.now.catalogue s s' b) c.if-branch.false c.in_ok-go_on.ensures.ok in
+    let law = c.law_messages_stay.ensures.messages in
+    let goes = rested c.args.self.now.catalogue s s' c.in_ok-go_on.field-0 c.is_some.result c.is_some.ensures c.if-is_some.false c.in_ok-go_on.ensures.ok in
     let none : EndsBy s' None = rw c.in_default.is at c.ended.ensures in
     let is = stands c.args.self.now.catalogue s s' law goes c.answers.invariant.silent none in
     let silent = ap (λ (x : Status). x.waiting) goes.0 ∙ c.answers.invariant.silent in
@@ -120,8 +120,8 @@ pub returns-in_err-receive-clause-served : goal.returns-in_err-receive-clause-se
 returns-in_err-receive-clause-served g c =
     let s = c.answers.connection in
     let s' = c.go_on.new.self in
-    let law = c.messages_stay.ensures.messages in
-    let goes = subst (λ (b : Bool). GoesOn c.args.self.now.catalogue s s' b) c.if-branch.false c.in_ok-go_on.ensures.ok in
+    let law = c.law_messages_stay.ensures.messages in
+    let goes = rested c.args.self.now.catalogue s s' c.in_ok-go_on.field-0 c.is_some.result c.is_some.ensures c.if-is_some.false c.in_ok-go_on.ensures.ok in
     let none : EndsBy s' None = rw c.in_default.is at c.ended.ensures in
     let silent = ap (λ (x : Status). x.waiting) goes.0 ∙ c.answers.invariant.silent in
     ends_with _ _ _ _ _ _ _ _ _ c.from_residual-in_err-receive.ensures.1 refl

@@ -1,5 +1,5 @@
 use Rattle.std.proofs.Common.{◌≡◌, ◌≤◌, false, [], length}
-use Rattle.http_parts.specs.declared.limits.TheConstants.{MESSAGE_LIMIT}
+use Rattle.http_fields.specs.declared.limits.TheConstants.{MESSAGE_LIMIT}
 use Rattle.cog_server.proofs.ServeLemmas.{Going, left}
 use Rattle.cog_server.proofs.server.Server.serve.Given as goal
 

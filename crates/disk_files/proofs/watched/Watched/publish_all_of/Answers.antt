@@ -10,7 +10,7 @@ returns-in-Ok-clause-has g c = λ whole always small.
     let given = kept_ok c.bytes_of.result c.map_err.result _ bytes
     (λ b. (whole : List ℕ) → GivesAlways g.F.Seek.stream_position g.F.Read.remaining whole → b.items ≡ take (FILE_LIMIT + 1) whole)
     c.map_err.ensures.cases c.in_ok-bytes.was c.bytes_of.ensures whole always in
-    let there = file_there c.publications_replace.ensures.replaces c.as_bytes.result.now c.in-Ok.tag bytes.items c.args.server.now c.publish.new.self
+    let there = file_there c.law_publications_replace.ensures.replaces c.as_bytes.result.now c.in-Ok.tag bytes.items c.args.server.now c.publish.new.self
     (ap (λ s. s.catalogue) c.in-Ok.ensures.ok) in
     file_as c.as_bytes.result.now c.args.self.now.name.now bytes.items whole c.publish.new.self c.as_bytes.ensures.value
     (all_of FILE_LIMIT bytes.items whole given small) there

@@ -7,7 +7,7 @@ use Rattle.fetch_tests.proofs.tests.kept.fetch_in_pieces.Goals as goal
 pub returns : goal.returns
 returns c = λ book p q before distinct among named agrees opens has kept enough.
     let source = source_of c.args.pieces.now in
-    let limit = c.answer_limit_is.ensures in
+    let limit = c.law_answer_limit_is.ensures in
     let room : answer_room ≤ ANSWER_LIMIT = omega (arith, limit) in
     c.fetch_pieces.ensures.reports book p q before distinct among named agrees (p, has, among) opens
-    (c.servers_in_memory_serve.ensures.fronts (served_state source).catalogue (served_name source) p ANSWER_LIMIT room has) kept enough
+    (c.law_servers_in_memory_serve.ensures.fronts (served_state source).catalogue (served_name source) p ANSWER_LIMIT room has) kept enough

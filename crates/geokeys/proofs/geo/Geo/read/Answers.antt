@@ -1,8 +1,8 @@
 use Rattle.std.proofs.Common.{◌≡◌, ◌+◌, ◌-◌, ◌<◌, [], ◌∷◌, length, refl, sym, ap, ◌∙◌, subst, arith, length-append}
 use Rattle.std.proofs.lemmas.Bool.{eqb-true}
 use Rattle.std.proofs.lemmas.Result.{err_from_is_err_and}
-use Rattle.geokeys.specs.declared.entry.Entry.{Entry}
-use Rattle.geokeys.specs.Entry.{entry_at}
+use Rattle.geokeys.specs.declared.entry.KeyEntry.{KeyEntry}
+use Rattle.geokeys.specs.KeyEntry.{entry_at}
 use Rattle.geokeys.specs.Keys.{IsValue}
 use Rattle.geokeys.proofs.Numbers.{no_fault, no_fault_of_none, no_keys, keys_next, keys_all, bad_order, value_refused, head_refused, ascend_next, placed_next, Ascend, ArePlaced}
 use Rattle.geokeys.proofs.geo.Geo.read.Goals as goal
@@ -32,8 +32,8 @@ returns-then-entry-entry_at-clause-refused c =
     let d = c.args.directory.now in
     let next : i - 1 + 1 ≡ i = omega (arith, c.if-i-gt0.true) in
     let lt : i - 1 + 1 < c.in_ok-head.head.keys = omega (arith, next, c.loop-i-test.true, c.from-count.ensures) in
-    let here : (entry_at order d (i - 1 + 1)).id ≡ c.entry_at-entry.result.id = ap (λ k. (entry_at order d k).id) next ∙ sym (ap (λ (e : Entry). e.id) c.entry_at-entry.ensures) in
-    let before : c.entry_at.result.id ≡ (entry_at order d (i - 1)).id = ap (λ (e : Entry). e.id) c.entry_at.ensures in
+    let here : (entry_at order d (i - 1 + 1)).id ≡ c.entry_at-entry.result.id = ap (λ k. (entry_at order d k).id) next ∙ sym (ap (λ (e : KeyEntry). e.id) c.entry_at-entry.ensures) in
+    let before : c.entry_at.result.id ≡ (entry_at order d (i - 1)).id = ap (λ (e : KeyEntry). e.id) c.entry_at.ensures in
     bad_order order d c.args.doubles.now c.args.ascii.now c.in_ok-head.head (i - 1) c.in_ok-head.ensures lt (omega (arith, here, before, c.if-entry-entry_at.true))
 
 pub returns-in_err-value-clause-refused : goal.returns-in_err-value-clause-refused
@@ -55,14 +55,14 @@ loop-i-preserved c =
     let lt : i < c.in_ok-head.head.keys = omega (arith, c.loop-i-test.true, c.from-count.ensures) in
     let ascends : 0 < i → (entry_at order d (i - 1)).id < (entry_at order d i).id = λ some. elim c.else-i-gt0.branch [
       | else-i-gt0-via-then-i-gt0+else-entry-entry_at w ↦
-          omega (arith, w.if-entry-entry_at.false, ap (λ (e : Entry). e.id) same, ap (λ (e : Entry). e.id) w.entry_at.ensures)
+          omega (arith, w.if-entry-entry_at.false, ap (λ (e : KeyEntry). e.id) same, ap (λ (e : KeyEntry). e.id) w.entry_at.ensures)
       | else-i-gt0-via-else-i-gt0 w ↦ absurd (omega (arith, w.if-i-gt0.false, some))
     ] in
     record {
       size = ap length c.in_ok-push.ensures.items ∙ omega (arith, length-append c.loop-i.keys.items (record { id = c.entry_at-entry.result.id; value = c.in_ok-value.value } ∷ []), kept.size);
       each = keys_next order d doubles ascii c.in_ok-head.head c.loop-i.keys.items c.push.new.self.items (record { id = c.entry_at-entry.result.id; value = c.in_ok-value.value }) i c.in_ok-head.ensures lt
-          kept.size kept.each c.in_ok-push.ensures.items (ap (λ (e : Entry). e.id) same)
-          (subst (λ (e : Entry). IsValue order doubles ascii e.location e.count e.first c.in_ok-value.value) same c.in_ok-value.ensures.0);
+          kept.size kept.each c.in_ok-push.ensures.items (ap (λ (e : KeyEntry). e.id) same)
+          (subst (λ (e : KeyEntry). IsValue order doubles ascii e.location e.count e.first c.in_ok-value.value) same c.in_ok-value.ensures.0);
       ascend = ascend_next order d i kept.ascend ascends;
       placed = placed_next order d doubles ascii i c.entry_at-entry.result kept.placed same c.in_ok-value.ensures.1;
     }

@@ -1,7 +1,7 @@
 use Rattle.std.proofs.Common.{◌≡◌, ℕ, ◌+◌, ◌-◌, ◌/◌, ◌<◌, ◌≤◌, true, false, List, refl, ap, sym, ◌∙◌, subst, arith, inl, inr}
 use Rattle.std.proofs.lemmas.Bool.Decides.{eqb_tells}
 use Rattle.std.specs.List.{All, range_with_len}
-use Rattle.tiff_dir.specs.Block.{first_block, blocks}
+use Rattle.extents.specs.Block.{first_block, blocks}
 use Rattle.range_cache.specs.Numbers.{has, AreThere, IsGap, IsLed}
 use Rattle.range_cache.specs.Cache.{Blocks, block_at, blocks_in, brought, numbers, bytes_at, Holds}
 use Rattle.range_cache.proofs.Bytes.{IsOf, blocks-some, bytes_of}

@@ -11,7 +11,7 @@ use Rattle.range_cache.proofs.cache.Cache.wants.Goals.{then-block-div_ceil-via-t
 pub returns-then-block-div_ceil : goal.returns-then-block-div_ceil
 unfolding is_wanted
 returns-then-block-div_ceil c = sym (and_left _ _ (false_from_ne_true _ (λ t.
-    let lies = lies_in c.args.complete c.args.wanted.first (c.args.wanted.last + 1) c.args.block t in
+    let lies = lies_in c.args.file_length c.args.wanted.first (c.args.wanted.last + 1) c.args.block t in
     elim c.then-block-div_ceil.branch [
       | then-block-div_ceil-via-then-block-div_ceil w ↦ omega (arith, w.if-block-div_ceil.true, c.div_ceil.ensures, lies.there)
       | then-block-div_ceil-via-else-block-div_ceil+then-block-wanted w ↦ omega (arith, w.if-block-wanted.true, lies.begins)
@@ -22,18 +22,18 @@ unfolding is_wanted
 returns-else-last_of-wanted c =
     lt-leb c.last_of.result c.args.wanted.last c.if-last_of-wanted.false
     ∙ sym (and_left _ _ (false_from_ne_true _ (λ t.
-    let lies = lies_in c.args.complete c.args.wanted.first (c.args.wanted.last + 1) c.args.block t in
+    let lies = lies_in c.args.file_length c.args.wanted.first (c.args.wanted.last + 1) c.args.block t in
     omega (arith, lies.ends, c.last_of.ensures, c.if-last_of-wanted.false))))
 
 pub returns-then-last_of-wanted : goal.returns-then-last_of-wanted
 unfolding is_wanted
 returns-then-last_of-wanted c =
-    let lies : LiesIn c.args.complete c.args.wanted.first (c.args.wanted.last + 1) c.args.block = record {
+    let lies : LiesIn c.args.file_length c.args.wanted.first (c.args.wanted.last + 1) c.args.block = record {
       there = omega (arith, c.if-block-div_ceil.false, c.div_ceil.ensures);
       begins = omega (arith, c.if-block-wanted.false);
       ends = omega (arith, c.last_of.ensures, c.if-last_of-wanted.true);
     } in
-    let whole = lies_whole c.args.complete c.args.wanted.first (c.args.wanted.last + 1) c.args.block lies in
+    let whole = lies_whole c.args.file_length c.args.wanted.first (c.args.wanted.last + 1) c.args.block lies in
     let there = told c.args.block c.self.inside.blocks.entries c.contains.result c.contains.ensures in
     let seen = ap (λ (v : Blocks). has c.args.block (numbers v.entries)) c.self.view_is in
     ap not (sym there ∙ seen)

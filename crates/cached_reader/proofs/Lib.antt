@@ -1,4 +1,0 @@
-pub mod GoingLemmas
-pub mod HeldLemmas
-pub mod AheadLemmas
-pub mod EarlyLemmas

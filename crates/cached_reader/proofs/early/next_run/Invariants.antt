@@ -1,8 +1,0 @@
-use Rattle.cached_reader.specs.Going.{work}
-use Rattle.cached_reader.specs.Early.{ArePassed}
-use Rattle.cached_reader.proofs.early.next_run.Given as goal
-
-abbrev pub invariant-loop-index : goal.invariant-loop-index
-invariant-loop-index l = record {
-  passed : ArePassed (work l.reader l.cache) l.last.index l.index l.last.least l.last.to;
-}

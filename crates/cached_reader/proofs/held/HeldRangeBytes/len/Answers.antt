@@ -1,6 +1,0 @@
-use Rattle.std.proofs.Common.{sym}
-use Rattle.cached_reader.proofs.HeldLemmas.{length_of}
-use Rattle.cached_reader.proofs.held.HeldRangeBytes.len.Goals as goal
-
-pub returns : goal.returns
-returns c = (let r = c.args.self.now in sym (length_of r.cache.now r.first r.len))

@@ -1,5 +1,0 @@
-use Rattle.cog_client.proofs.ProgressLemmas.{agreement_seen}
-use Rattle.cog_client.proofs.laws.agreement_is_seen.Goals as goal
-
-pub returns : goal.returns
-returns c = agreement_seen c.lengths_are_known.ensures

@@ -1,5 +1,0 @@
-use Rattle.cog_client.proofs.TruthLemmas.{truth_is_told}
-use Rattle.cog_client.proofs.laws.equal_reports_are_true.Goals as goal
-
-pub returns : goal.returns
-returns c = truth_is_told

@@ -1,5 +1,0 @@
-use Rattle.cog_reader.proofs.EndLemmas.{wanted_end}
-use Rattle.cog_reader.proofs.laws.end_is_wanted.Goals as goal
-
-pub returns : goal.returns
-returns c r f agrees = wanted_end r f agrees (λ told ended. c.what_comes.ensures.over r.walk f told ended) (c.what_comes.ensures.end r.walk f)

@@ -1,5 +1,0 @@
-use Rattle.cog_reader.proofs.EndLemmas.{answered_comes, unasked_comes}
-use Rattle.cog_reader.proofs.laws.nothing_comes.Goals as goal
-
-pub returns : goal.returns
-returns c = record { unasked = unasked_comes; answered = answered_comes }

@@ -1,0 +1,76 @@
+-- What may be asked for early: before the answer came to what is asked for now.
+use Rattle.std.specs.Prelude.{◌≡◌, ℕ, ◌+◌, ◌-◌, ◌*◌, ◌/◌, ◌<◌, ◌≤◌, ◌⊎◌, false, true, List, Some, slice_get}
+use Rattle.std.specs.List.{AllPairs, Any}
+use Rattle.extents.specs.declared.span.Span.{Span}
+use Rattle.extents.specs.declared.limits.TheConstants.{BLOCK_SIZE}
+use Rattle.extents.specs.Extent.{Extent}
+use Rattle.extents.specs.Block.{end_of, first_block, blocks}
+use Rattle.range_cache.specs.Cache.{Blocks, numbers}
+use Rattle.range_cache.specs.Numbers.{has, missing as absent}
+use Rattle.cog_reader.specs.Reader.{ReaderAgrees, file_length_of, to_come}
+use Rattle.cog_reader.specs.declared.ahead.TheConstants.{MAX_BLOCKS}
+use Rattle.cog_reader.specs.Going.{CachedReader, known_at, IsWantedFromNow, OneTouches, Touches}
+
+-- The blocks from one number up to another begin in a range, with blocks of it that aren't there, and go on behind these by at most so
+-- many more. They have room beside the blocks of the range that are there then: all before them, and those of the others that are there.
+pub record IsRunIn (b : Blocks) (r : Extent) (ahead from to : ℕ) : Type 0 where
+  pub end : ℕ
+  pub begins : first_block r.first ≤ from
+  pub some : from < end
+  pub within : end ≤ first_block r.first + blocks r.first r.len
+  pub gone : (k : ℕ) → from ≤ k → k < end → has k (numbers b.entries) ≡ false
+  pub on : end ≤ to
+  pub near : to ≤ end + ahead
+  pub room : blocks r.first r.len - absent (numbers b.entries) from (first_block r.first + blocks r.first r.len - from) + (to - from) ≤ b.capacity
+
+-- The blocks from one number up to another begin in the file, and are 65 at most. None of them is there. Each touches a range that the
+-- reader wants from now on, as far as it knows it, and one that is still to come, of whatever file is read. They begin in a range that it
+-- wants from now on, and go on behind that one's first missing blocks among them by at most so many.
+pub record AreNeededLater (w : CachedReader) (ahead from to : ℕ) : Type 0 where
+  pub some : from < to
+  pub few : to ≤ from + MAX_BLOCKS
+  pub inside : to * BLOCK_SIZE < file_length_of w.reader + BLOCK_SIZE
+  pub gone : (k : ℕ) → from ≤ k → k < to → has k (numbers w.cache.entries) ≡ false
+  pub needed : (f : List ℕ) → ReaderAgrees w.reader f → (k : ℕ) → from ≤ k → k < to → OneTouches (to_come w.reader f) k
+  pub wanted : (k : ℕ) → from ≤ k → k < to → IsWantedFromNow w.reader k
+  pub range : Extent
+  pub index : ℕ
+  pub known : known_at w.reader index ≡ Some range
+  pub comes : (f : List ℕ) → ReaderAgrees w.reader f → slice_get (to_come w.reader f) index ≡ Some range
+  pub run : IsRunIn w.cache range ahead from to
+
+-- The span is of such blocks, behind what is asked for now.
+pub record IsEarly (w : CachedReader) (ahead : ℕ) (asked span : Span) : Type 0 where
+  pub from : ℕ
+  pub to : ℕ
+  pub blocks : AreNeededLater w ahead from to
+  pub first : span.first ≡ from * BLOCK_SIZE
+  pub last : span.last + 1 ≡ end_of (file_length_of w.reader) (to - 1)
+  pub behind : asked.last < span.first
+
+-- Block k is there, or its first byte is in one of these spans.
+abbrev pub IsSeenTo : CachedReader → List Span → ℕ → Type 0
+IsSeenTo w spans k =
+    (has k (numbers w.cache.entries) ≡ true) ⊎ Any (λ (s : Span). (s.first ≤ k * BLOCK_SIZE) × (k * BLOCK_SIZE ≤ s.last)) spans
+
+-- The span begins in a range that the reader wants from now on. Of that one and those that it wants before, as far as it knows them,
+-- nothing is left out: each of their blocks behind what is asked for now and before the span is there, or in one of these spans.
+pub record LeavesNothing (w : CachedReader) (asked : Span) (spans : List Span) (span : Span) : Type 0 where
+  pub index : ℕ
+  pub range : Extent
+  pub known : known_at w.reader index ≡ Some range
+  pub begins : Touches range (span.first / BLOCK_SIZE)
+  pub before : (i : ℕ) (r : Extent) (k : ℕ) → i ≤ index → known_at w.reader i ≡ Some r → Touches r k → asked.last < k * BLOCK_SIZE → k * BLOCK_SIZE < span.first → IsSeenTo w spans k
+
+-- The ranges that the reader wants from one place up to another have no block before one number, and no missing one from another on.
+abbrev pub ArePassed : CachedReader → ℕ → ℕ → ℕ → ℕ → Type 0
+ArePassed w place next least to =
+    (i : ℕ) (r : Extent) (k : ℕ) → place ≤ i → i < next → known_at w.reader i ≡ Some r → Touches r k → (least ≤ k) × (to ≤ k → has k (numbers w.cache.entries) ≡ true)
+
+-- the range at a place begins in one block, and touches another one
+abbrev pub BeginsIn : CachedReader → ℕ → ℕ → ℕ → Type 0
+BeginsIn w place first k = (r : Extent) × (known_at w.reader place ≡ Some r) × (first_block r.first ≡ first) × Touches r k
+
+-- Each span lies behind all those before it.
+abbrev pub AreApart : List Span → Type 0
+AreApart spans = AllPairs (λ (s t : Span). s.last < t.first) spans

@@ -1,0 +1,60 @@
+-- `none` makes a place at null, which owns nothing.
+use mathlib.Core.Path.{refl, sym, subst}
+use mathlib.Core.Bool.{true, ◌&&◌}
+use mathlib.Core.List.{List, [], ◌∷◌, ◌++◌}
+use lib.Dec.{T, lit<}
+use Rattle.std.specs.Prelude.{None}
+use mir.Syntax.{w64}
+use mir.Val.{Val, vint, vstruct, vcons, vnil, has_ty, WT}
+use base.Logic.{SProp, ent, emp, id⊢}
+use base.Fml.{ftrue, fsep}
+use prog.Wp.{WpFn}
+use contract.Running.{tables}
+use types.Kit.{Item, ‵, raw, ◌⊛◌, ◌$◌, ◌∵◌, !, qed, by, move, drop, use1, join, split, fsplit, fjoin, fpack, feq_i, suffices, done}
+use types.Part.{agg}
+use types.Run.{no_more, and_then, lit, returns, enter}
+use types.ByLocal.{alloc_all, pass_all, free_all, look_at, get, sets}
+use denote.Builtin.{RawPtr}
+use denote.Exit.{yes}
+use denote.RattleType.{Valss}
+use denote.RawPtr.{null_ptr}
+use denote.Signature.{type_at}
+use denote.Steps.{nothing}
+use denote.Struct.Owning.{shape}
+use denote.Struct.Struct.{within}
+use denote.Triple.Walked.{says, Stays, stay_dropped, walk_of, ends_at, Goes-dropped}
+use Rattle.std.proofs.alloc.Calls.{α, handle_tells}
+use Rattle.std.proofs.BoxSteps.Form.{P, owning}
+use Rattle.std.proofs.ResultValues.{and_tt}
+use Rattle.std.proofs.raw_atomic.Walks.{proved_at}
+use Rattle.std.specs.contracts.alloc.Global as Heap
+use Rattle.delgunsai_c.proofs.AsBox.{E, FromHeap as From}
+use Rattle.delgunsai_c.specs.contracts.client_pointer.ClientPointer.none as F
+use Rattle.delgunsai_c.specs.contracts.client_pointer.ClientPointer.none.Key.{name as #self}
+use Rattle.delgunsai_c.proofs.client_pointer.ClientPointer.none.Statement as stated
+use Rattle.delgunsai_c.proofs.client_pointer.ClientPointer.none.Code as code
+
+abbrev stayed : Stays (F.ended).signature.params (F.ended).kept
+stayed = (stay_dropped From yes, tt)
+
+pub none_spec : {M : Type 1} → stated.statement M
+none_spec 𝓤 𝓛 𝓜 𝓡 wired =
+    let H = 𝓛.H in let 𝓣 = tables 𝓤 H 𝓜 𝓡 𝓡.env in let c = F.clauses 𝓛 𝓜.mem 𝓡.returns in
+    proved_at 𝓛 F.ended stayed c 𝓜 𝓡 (Goes-dropped 𝓛 0 From yes (λ κs x f. refl), tt) #self code.function (code.unfolded 𝓤 H 𝓜 𝓡 wired) (λ z are.
+    let a = z.0.3.0 in let Post : Val → SProp 𝓤 = (walk_of 𝓛 F.ended stayed c).post z in
+    let To = type_at (F.signature).result tt in
+    let made : To.Denot = record { at = null_ptr; alloc = a; inside = None } in
+    qed 𝓛 ((‵ ftrue ⊛ ‵ (fsep ((Heap.the_row).own_val a z.0.4.0) ftrue)) ∷ raw (emp 𝓤) ∷ []) ∵ split ! $ drop ! $ fsplit ! $
+    handle_tells E.al ! a z.0.4.0 (λ hv ea fa.
+    let w : Val = vstruct (vcons (vint w64 0) (vcons hv vnil)) in
+    let typed : T (has_ty (α E.al) hv && true) × WT w = (and_tt (has_ty (α E.al) hv) fa.0, (record { fits = lit< tt }, (fa.1, tt))) in
+    let Γ : List (Item 𝓤) = ‵ (To.own_val made (w ∷ [])) ∷ [] in
+    -- what the place owns
+    nothing ! $ move ! (1 ∷ 0 ∷ []) $ fjoin ! $ feq_i ! (List Val) (vint w64 0 ∷ []) (vint w64 0 ∷ []) refl $ fjoin ! $ feq_i ! (List Val) (w ∷ []) (w ∷ []) refl $ fjoin ! $
+    fpack ! (Valss (RawPtr ∷ P E ∷ [])) (within (shape (owning E)) (null_ptr, (a, tt)) (w ∷ [])) (vint w64 0 ∷ [], (hv ∷ [], tt)) $
+    nothing ! $ move ! (1 ∷ 0 ∷ []) $ fjoin ! $ use1 𝓛 (‵ (To.own_val made (w ∷ []))) (id⊢ 𝓤 _) $ move ! (1 ∷ 2 ∷ []) $ drop ! $ drop ! $
+    by ! (subst (λ (us : List Val). ent 𝓤 (types.Kit.⋆ 𝓛 Γ) (WpFn 𝓤 H 𝓣.C 𝓣.Λ code.function (us ++ []) Post)) (sym ea)
+    (qed 𝓛 Γ ∵ enter ! 𝓣.C 𝓣.Λ code.function (hv ∷ []) _ $ alloc_all ! (λ ls. pass_all ! refl (fa, tt) $
+    sets ! (agg ! (and_then ! (lit ! tt) (and_then ! (get ! refl) (no_more !)))) refl typed $ returns ! (look_at ! 0 refl) $ free_all ! refl $
+    suffices ! _ (ends_at 𝓛 F.ended stayed c z w made (tt, tt) (tt, tt)) $ says ! refl $
+    nothing ! $ nothing ! $ fjoin ! $ join ! $ nothing ! $ join ! $ done !)))))

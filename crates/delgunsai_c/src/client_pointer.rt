@@ -1,0 +1,58 @@
+//! A place in the heap, as C holds it.
+ghost use Rattle.std.specs.Prelude.{◌≡◌, Option, None, Some, IsSome};
+ghost use Rattle.cog_client.specs.Client.{ClientState};
+ghost use Rattle.delgunsai_c.specs.Owned.{inside_coded, owned};
+
+use crate::parts::RawParts;
+use cog_client::Client;
+use std::alloc::Global;
+use std::marker::Model;
+use std::ptr::null_mut;
+
+/// The address of a client in the heap, which it owns, or nothing. C sees the address alone, since an allocator has no bytes.
+#[repr(C)]
+#[derive(Drop)]
+pub struct ClientPointer {
+    at: *mut u8,
+    alloc: Global,
+    pub ghost inside: { Option ClientState } by { inside_coded },
+}
+
+impl Model for ClientPointer {
+    ghost also_owns = { λ p. owned p.inside p.alloc p.at };
+}
+
+impl ClientPointer {
+    /// The place of nothing.
+    pub fn none(alloc: Global) -> ClientPointer
+        ensures { result.inside ≡ None }
+    {
+        ClientPointer {
+            at: null_mut(),
+            alloc,
+        }
+    }
+
+    /// The place of a client.
+    pub fn of_parts(parts: RawParts<Client, Global>) -> ClientPointer
+        ensures { result.inside ≡ Some parts.value }
+    {
+        let RawParts { ptr, alloc } = parts;
+        ClientPointer {
+            at: ptr as *mut u8,
+            alloc,
+        }
+    }
+
+    /// The client of a place that has one.
+    pub fn into_parts(self) -> RawParts<Client, Global>
+        requires { IsSome self.inside }
+        ensures { Some result.value ≡ self.inside }
+    {
+        let ClientPointer { at, alloc } = self;
+        RawParts {
+            ptr: at as *mut Client,
+            alloc,
+        }
+    }
+}

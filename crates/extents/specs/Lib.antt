@@ -1,0 +1,2 @@
+pub mod Block
+pub mod Extent

@@ -1,8 +1,0 @@
-use Rattle.std.proofs.Common.{sym}
-use Rattle.http_parts.proofs.FieldLemmas.{named_by}
-use Rattle.http_parts.proofs.bytes.is_same_word.Goals as goal
-
-pub returns : goal.returns
-returns c =
-    let test = c.eq_ignore_ascii_case.ensures.test in
-    sym (named_by _ _ _ test.0 test.1)

@@ -1,8 +1,0 @@
-use Rattle.http_range.proofs.FormLemmas.{content_ranges_are_forms}
-use Rattle.http_range.proofs.laws.values_have_forms.Goals as goal
-
-pub returns-clause-tags : goal.returns-clause-tags
-returns-clause-tags c = c.parts_are_read.ensures.quoted
-
-pub returns-clause-ranges : goal.returns-clause-ranges
-returns-clause-ranges c = content_ranges_are_forms

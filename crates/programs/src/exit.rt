@@ -1,0 +1,239 @@
+//! Why a program ends early.
+use clap::error::ErrorKind;
+use cog_client::ClientError;
+use cog_server::PublishError;
+use command_lines::FileUrlError;
+use http_range::Memory;
+use read_command::ReadError;
+use scripts::ScriptError;
+use std::alloc::AllocError;
+use std::{fmt, io};
+use tiff_dir::FileFault;
+
+/// Why a program ends early.
+#[derive(Drop)]
+pub enum Exit {
+    /// A word of the command line isn't UTF-8.
+    NotText,
+    /// The first word names no program.
+    NotAProgram(String),
+    /// The words of the command line aren't the program's, or ask for help.
+    CommandLine(clap::Error),
+    /// A word of the command line isn't a number of its range.
+    NotANumber(String),
+    /// A word of the command line isn't `NAME=PATH`.
+    NotAFile(String),
+    Script(ScriptError),
+    /// The file at this path can't be read.
+    CantRead(String),
+    /// The file of this name isn't published.
+    Refused(PublishError, String),
+    /// No client of the host and name is made.
+    RefusedClient(ClientError),
+    /// This URL names no file of a server.
+    NotAFileUrl(String, FileUrlError),
+    /// The report is this fault of the file.
+    OfFile(FileFault),
+    /// No report stands after all requests.
+    NoReport,
+    /// The address can't be bound.
+    CantListen,
+    /// No connection can be accepted any more.
+    CantAccept,
+    /// Connections can't be waited for any more.
+    CantWait,
+    /// The standard output can't be written.
+    CantWrite,
+    /// The file at this path can't be written.
+    CantWriteFile(String),
+    Memory,
+}
+
+impl Exit {
+    ghost use Rattle.std.specs.Prelude.{is_ok};
+    ghost use Rattle.programs.specs.Status.{EndsBy, EndsWith, HasStatus};
+
+    /// The exit status: 0 for help and the version, 1 for files, sockets, publications and memory, 2 for the command
+    /// line and scripts, 3 for a fault of the file that is read, and 4 where there is no report.
+    pub fn status(&self) -> u8
+        ensures { HasStatus self.now result }
+    {
+        match self {
+            Exit::CommandLine(error) if !error.use_stderr() => 0,
+            Exit::NotText
+            | Exit::NotAProgram(_)
+            | Exit::CommandLine(_)
+            | Exit::NotANumber(_)
+            | Exit::NotAFile(_)
+            | Exit::RefusedClient(_)
+            | Exit::NotAFileUrl(_, _)
+            | Exit::Script(ScriptError::NotAnEvent(_)) => 2,
+            Exit::OfFile(_) => 3,
+            Exit::NoReport => 4,
+            Exit::Script(_)
+            | Exit::CantRead(_)
+            | Exit::Refused(_, _)
+            | Exit::CantListen
+            | Exit::CantAccept
+            | Exit::CantWait
+            | Exit::CantWrite
+            | Exit::CantWriteFile(_)
+            | Exit::Memory => 1,
+        }
+    }
+
+    /// Prints the fault's line, as the program of this name tells it, or the help that was asked for, and gives the exit status:
+    /// 1 where help can't be written.
+    pub fn tell<R: Print + Eprint>(&self, rt: &R, program: &str) -> u8
+        ensures { EndsWith self.now result }
+    {
+        let printed = self.print(rt, program);
+        let status = self.status_by(&printed);
+        if let Err(error) = printed
+            && self.status() == 0
+        {
+            let _ = Exit::from(error).print(rt, program);
+        }
+        status
+    }
+
+    /// The exit status by what printing its line, or the help that was asked for, came to: 1 where that help isn't printed.
+    fn status_by(&self, printed: &io::Result<()>) -> u8
+        ensures { EndsBy (is_ok printed.now) self.now result }
+    {
+        match self.status() {
+            0 if printed.is_err() => 1,
+            status => status,
+        }
+    }
+
+    fn print<R: Print + Eprint>(&self, rt: &R, program: &str) -> io::Result<()> {
+        match self {
+            Exit::CommandLine(error) => error.print(rt),
+            fault => rt.eprintln(ExitLine { program, fault }),
+        }
+    }
+}
+
+/// A fault as the line that a program tells.
+#[derive(Drop)]
+struct ExitLine<'a> {
+    program: &'a str,
+    fault: &'a Exit,
+}
+
+impl fmt::Display for ExitLine<'_> {
+    fn fmt<W: fmt::Write>(&self, f: &mut fmt::Formatter<W>) -> fmt::Result {
+        let program = self.program;
+        match self.fault {
+            Exit::Script(ScriptError::NotAnEvent(line)) => write!(f, "line {line}: not an event"),
+            Exit::Script(ScriptError::CantRead(line)) => write!(f, "line {line}: can't read"),
+            Exit::NotText => write!(f, "{program}: a word isn't text"),
+            Exit::NotAProgram(word) => write!(f, "{program}: not a program: {word}"),
+            Exit::CommandLine(error) => write!(f, "{error}"),
+            Exit::NotANumber(word) => write!(f, "{program}: not a number: {word}"),
+            Exit::NotAFile(word) => write!(f, "{program}: not a file: {word}"),
+            Exit::CantRead(path) => write!(f, "{program}: can't read {path}"),
+            Exit::Refused(refusal, name) => {
+                write!(f, "{program}: refused {} {name}", refusal.number())
+            }
+            Exit::RefusedClient(refusal) => write!(f, "{program}: refused {}", refusal.number()),
+            Exit::NotAFileUrl(word, error) => write!(f, "{program}: not a place: {word}: {error}"),
+            Exit::OfFile(fault) => match fault.tag() {
+                Some(tag) => write!(f, "{program}: fault {} {tag}", fault.number()),
+                None => write!(f, "{program}: fault {}", fault.number()),
+            },
+            Exit::NoReport => write!(f, "{program}: no report"),
+            Exit::CantListen => write!(f, "{program}: can't listen"),
+            Exit::CantAccept => write!(f, "{program}: can't accept"),
+            Exit::CantWait => write!(f, "{program}: can't wait"),
+            Exit::CantWrite => write!(f, "{program}: can't write"),
+            Exit::CantWriteFile(path) => write!(f, "{program}: can't write {path}"),
+            Exit::Script(ScriptError::Memory) | Exit::Memory => {
+                write!(f, "{program}: out of memory")
+            }
+        }
+    }
+}
+
+impl From<AllocError> for Exit {
+    ghost use Rattle.std.specs.Prelude.{◌≡◌};
+    ghost use Rattle.programs.specs.declared.exit.Exit.TheVariants.{Memory};
+
+    ghost from_gives = { λ _ fault. fault ≡ Memory };
+
+    fn from(_refused: AllocError) -> Exit {
+        Exit::Memory
+    }
+}
+
+impl From<Memory> for Exit {
+    ghost use Rattle.std.specs.Prelude.{◌≡◌};
+    ghost use Rattle.programs.specs.declared.exit.Exit.TheVariants.{Memory};
+
+    ghost from_gives = { λ _ fault. fault ≡ Memory };
+
+    fn from(_refused: Memory) -> Exit {
+        Exit::Memory
+    }
+}
+
+impl From<ReadError> for Exit {
+    ghost use Rattle.std.specs.Prelude.{◌≡◌};
+    ghost use Rattle.programs.specs.Status.{exit_of_reading};
+
+    ghost from_gives = { λ error fault. fault ≡ exit_of_reading error };
+
+    fn from(error: ReadError) -> Exit {
+        match error {
+            ReadError::OfFile(fault) => Exit::OfFile(fault),
+            ReadError::NoReport => Exit::NoReport,
+            ReadError::Memory => Exit::Memory,
+        }
+    }
+}
+
+impl From<ScriptError> for Exit {
+    ghost use Rattle.std.specs.Prelude.{◌≡◌};
+    ghost use Rattle.programs.specs.declared.exit.Exit.TheVariants.{Script};
+
+    ghost from_gives = { λ error fault. fault ≡ Script error };
+
+    fn from(error: ScriptError) -> Exit {
+        Exit::Script(error)
+    }
+}
+
+impl From<io::Error> for Exit {
+    ghost use Rattle.std.specs.Prelude.{◌≡◌, ◌≢◌};
+    ghost use Rattle.std.specs.IoError.{error_kind};
+    ghost use Rattle.std.specs.declared.io.ErrorKind.TheVariants.{OutOfMemory};
+    ghost use Rattle.programs.specs.declared.exit.Exit.TheVariants.{CantWrite, Memory};
+
+    ghost from_gives = { λ error fault. (error_kind error ≡ OutOfMemory → fault ≡ Memory)
+        × (error_kind error ≢ OutOfMemory → fault ≡ CantWrite) };
+
+    fn from(error: io::Error) -> Exit {
+        match error.kind() {
+            io::ErrorKind::OutOfMemory => Exit::Memory,
+            _ => Exit::CantWrite,
+        }
+    }
+}
+
+impl From<clap::Error> for Exit {
+    ghost use Rattle.std.specs.Prelude.{◌≡◌, ◌≢◌};
+    ghost use Rattle.programs.specs.declared.exit.Exit.TheVariants.{CommandLine, Memory};
+    ghost use Rattle.clap.specs.Words.{kind_of};
+    ghost use Rattle.clap.specs.declared.error.kind.ErrorKind.TheVariants.{OutOfMemory};
+
+    ghost from_gives = { λ error fault. (kind_of error ≡ OutOfMemory → fault ≡ Memory)
+        × (kind_of error ≢ OutOfMemory → fault ≡ CommandLine error) };
+
+    fn from(error: clap::Error) -> Exit {
+        match error.kind() {
+            ErrorKind::OutOfMemory => Exit::Memory,
+            _ => Exit::CommandLine(error),
+        }
+    }
+}

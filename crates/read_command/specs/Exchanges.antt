@@ -1,0 +1,68 @@
+-- What exchanges for what is asked keep and do, and when they end.
+use Rattle.std.specs.Prelude.{◌≡◌, ◌≢◌, ◌≤◌, ◌⊎◌, ℕ, zero, suc, Some, IfSome, IsSome, IsSomeAnd}
+use Rattle.tiff_dir.specs.declared.query.Query.{Query}
+use Rattle.tiff_dir.specs.declared.query.Query.TheVariants.{Window, Info}
+use Rattle.tiff_dir.specs.declared.query.Pick.TheVariants.{Level}
+use Rattle.http_range.specs.Book.{Publication, Book, In}
+use Rattle.cog_client.specs.Client.{ClientState, query_of, report_of}
+use Rattle.cog_client.specs.Keeps.{OpensKeeping}
+use Rattle.cog_client.specs.Transport.{Anything, FetchesSome, ReadsBook, StopsFetching}
+use Rattle.read_command.specs.declared.reading.Asked.{Asked}
+use Rattle.read_command.specs.declared.reading.Asked.TheVariants as asked
+use Rattle.read_command.specs.Text.{IsFor, TellsSides}
+
+-- the client still reads each book that it read and that the source spoke for
+abbrev pub StillReads : (Book → Type 0) → (Book → Type 0) → ClientState → ClientState → Type 0
+StillReads before after old new = (book : Book) → ReadsBook before old book → ReadsBook after new book
+
+-- Where a report stands, its query is one for what is asked of the file of the book that has the tag which it tells.
+abbrev pub AsksOf : Book → Asked → ClientState → Type 0
+AsksOf book a c = IfSome (report_of c) (λ r. (p : Publication) → In p book → p.tag ≡ r.tag → IfSome (query_of c) (IsFor p.file a))
+
+-- The query is asked for what is asked of a file: for a whole level Info, or a window of that level from its first sample on.
+abbrev pub IsAskedFor : Asked → Query → Type 0
+IsAskedFor (asked.Query query) q = q ≡ query
+IsAskedFor (asked.Whole level) q = (q ≡ Info) ⊎ ((width height : ℕ) × q ≡ Window 0 0 width height (Level level))
+IsAskedFor (asked.Description form) q = q ≡ Info
+
+-- So many queries for what is asked are put one after another, and exchanged for, and nothing else is done to the client.
+abbrev pub ReadsQueries : Asked → ℕ → ClientState → ClientState → Type 0
+ReadsQueries a zero old new = new ≡ old
+ReadsQueries a (suc n) old new = (mid opened : ClientState) × (query : Query) × IsAskedFor a query
+    × ReadsQueries a n old mid × OpensKeeping query mid opened × FetchesSome Anything opened new
+
+-- some are put so
+abbrev pub ReadsSome : Asked → ClientState → ClientState → Type 0
+ReadsSome a old new = (n : ℕ) × ReadsQueries a n old new
+
+-- Memory was wanting in the exchanges for one query, after some.
+abbrev pub StopsReading : Asked → ClientState → ClientState → Type 0
+StopsReading a old new = (mid opened : ClientState) × (query : Query) × IsAskedFor a query
+    × ReadsSome a old mid × OpensKeeping query mid opened × StopsFetching Anything opened new
+
+-- ---- when they end
+
+-- the reports that stood tell two tags: the file was replaced between
+abbrev pub IsReplaced : ClientState → ClientState → Type 0
+IsReplaced old new = IsSomeAnd (report_of old) (λ r. IsSomeAnd (report_of new) (λ s. s.tag ≢ r.tag))
+
+-- So often the file was replaced between two reports while what is asked was read, and nothing else is done to the client.
+abbrev pub FindsReplaced : Asked → ℕ → ClientState → ClientState → Type 0
+FindsReplaced a zero old new = new ≡ old
+FindsReplaced a (suc n) old new = (mid told : ClientState)
+    × FindsReplaced a n old mid × ReadsSome a mid told × ReadsSome a told new × IsReplaced told new
+
+-- It was replaced at least so often, and then the query was put anew.
+abbrev pub IsReplacedOften : Asked → (most : ℕ) → ClientState → ClientState → Type 0
+IsReplacedOften a most old new = (n : ℕ) × (mid : ClientState) × (most ≤ n) × FindsReplaced a n old mid × ReadsSome a mid new
+
+-- a report stands, and not one of Info that only tells sides
+abbrev pub AnswersWhole : (level : ℕ) → ClientState → Type 0
+AnswersWhole level c = IsSomeAnd (report_of c) (λ r. query_of c ≡ Some Info → TellsSides (asked.Whole level) r.outcome → ⊥)
+
+-- The exchanges end where all are used up, or a report stands; those for a whole level only where one stands that tells more than sides, or where
+-- the file was replaced as often as there may be exchanges.
+abbrev pub Ends : Asked → (most count : ℕ) → (old new : ClientState) → Type 0
+Ends (asked.Whole level) most count old new =
+    (most ≤ count) ⊎ (AnswersWhole level new ⊎ IsReplacedOften (asked.Whole level) most old new)
+Ends a most count old new = (most ≤ count) ⊎ IsSome (report_of new)

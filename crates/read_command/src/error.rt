@@ -1,0 +1,38 @@
+//! Why there is no text of a file.
+use cog_client::FetchError;
+use extents::Memory;
+use tiff_dir::FileFault;
+
+/// Why there is no text of a file.
+#[derive(Clone, Copy, Debug, PartialEq, Eq)]
+pub enum ReadError {
+    /// The report is this fault of the file.
+    OfFile(FileFault),
+    /// No report stands that has what is asked.
+    NoReport,
+    Memory,
+}
+
+impl From<Memory> for ReadError {
+    ghost use Rattle.std.specs.Prelude.{◌≡◌};
+    ghost use Rattle.read_command.specs.declared.error.ReadError.TheVariants.{Memory};
+
+    ghost from_gives = { λ _ error. error ≡ Memory };
+
+    fn from(_refused: Memory) -> ReadError {
+        ReadError::Memory
+    }
+}
+
+impl From<FetchError> for ReadError {
+    ghost use Rattle.std.specs.Prelude.{◌≡◌};
+    ghost use Rattle.read_command.specs.declared.error.ReadError.TheVariants.{Memory};
+
+    ghost from_gives = { λ _ error. error ≡ Memory };
+
+    fn from(refused: FetchError) -> ReadError {
+        match refused {
+            FetchError::Memory => ReadError::Memory,
+        }
+    }
+}

@@ -1,0 +1,10 @@
+//! How `cogread` reads: what is asked of a file, over any source of answers, and the text that is written of it.
+#![tactic(auto)]
+
+mod error;
+mod reading;
+mod text;
+
+pub use error::ReadError;
+pub use reading::{Asked, Exchanges, Verbosity};
+pub use text::Text;

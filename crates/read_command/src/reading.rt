@@ -1,0 +1,294 @@
+//! How `cogread` reads: its exchanges, which are told with `--verbose` and drawn with `--progress`, and what is asked of the file.
+ghost use Rattle.std.specs.Prelude.{◌≡◌, ◌≢◌, ℕ, ◌+◌, ◌<◌, ◌≤◌, ◌^◌, ◌⊎◌, false, true, Err, IfSome, IsSomeAnd, List, None, OnErr, OnOk, Option, Some, slice_get};
+ghost use Rattle.tiff_dir.specs.declared.query.Query.TheVariants.{Info as AnInfo};
+ghost use Rattle.http_range.specs.Book.{Book, HasDistinctTags};
+ghost use Rattle.cog_client.specs.Calls.{IsIdle};
+ghost use Rattle.cog_client.specs.declared.report.Report.{Report};
+ghost use Rattle.cog_client.specs.Client.{name_of, report_of, ClientAgrees};
+ghost use Rattle.cog_client.specs.Keeps.{RequestsKeeping, Stands};
+ghost use Rattle.cog_client.specs.Transport.{Anything, FetchesAll, FetchesSome, KeepsReading, ReadsBook, StopsFetching};
+ghost use Rattle.cog_fetch.specs.Takes.{TakenOf};
+ghost use Rattle.read_progress.specs.Noted.{source_of};
+ghost use Rattle.read_command.specs.declared.error.ReadError.TheVariants.{NoReport};
+ghost use Rattle.read_command.specs.declared.reading.Asked.TheVariants.{Whole};
+ghost use Rattle.read_command.specs.Exchanges.{AsksOf, Ends, IsAskedFor, ReadsSome, StillReads, StopsReading};
+ghost use Rattle.read_command.specs.Text.{HasNothing, IsOfFile, IsOfWholeBy, IsWritten, StaysWithin, TellsSides, WritesTrue};
+
+use crate::error::ReadError;
+use crate::text::Text;
+use cog_client::{Client, FetchError, Info, Outcome, Pieces, Query, Report, Tag};
+use cog_fetch::fetch_pieces;
+use http_range::law_fronts_are_read;
+use read_progress::{Noted, NotedNet, exchanges_drawn, exchanges_told};
+use std::rt::Clock;
+use text_description::{Description, Form};
+use text_report::{FaultSentence, info_text, picture_head};
+use tiff_dir::Pick;
+
+/// What is asked of a file.
+#[derive(Clone, Copy, Debug)]
+pub enum Asked {
+    Query(Query),
+    /// The whole of a level.
+    Whole { level: u32 },
+    /// What the file says of itself.
+    Description(Form),
+}
+
+/// What is told of exchanges on standard error.
+#[derive(Clone, Copy, Debug, PartialEq, Eq)]
+pub enum Verbosity {
+    Nothing,
+    /// A line for each, and why there is no text.
+    Each,
+    /// How far they have come, as one line that is drawn over itself.
+    Progress,
+}
+
+/// How exchanges are made: at most so many in all, and what is told of them.
+#[derive(Drop)]
+pub struct Exchanges<'a, 'r, R> {
+    pub rt: &'a R,
+    pub net: &'a NotedNet<'r, R>,
+    pub requests: u32,
+    pub verbosity: Verbosity,
+}
+
+/// How many exchanges of so many are left.
+fn left<P: Pieces>(noted: &Noted<P>, requests: u32) -> u32
+    ensures counted { P.count (source_of noted.now) + result < 2 ^ 64 }
+    ensures few { StaysWithin requests (P.count (source_of noted.now)) (P.count (source_of noted.now) + result) }
+    ensures all { requests ≤ P.count (source_of noted.now) + result }
+{
+    let starts = noted.starts();
+    if starts < u64::from(requests) {
+        requests - starts as u32
+    } else {
+        0
+    }
+}
+
+impl<R: Eprint + Clock + AllocGlobal> Exchanges<'_, '_, R> {
+    /// Sends what the client asks, until a report stands or no exchange is left. What is all there needs none.
+    fn fetch<P: Pieces>(&self, client: &mut Client, noted: &mut Noted<P>) -> Result<(), FetchError>
+        ensures keeps { KeepsReading (P.speaks_for (source_of noted.old)) (P.speaks_for (source_of noted.new)) client.old client.new }
+        ensures few { StaysWithin self.now.requests (P.count (source_of noted.old)) (P.count (source_of noted.new)) }
+        ensures ends { OnOk result ((self.now.requests ≤ P.count (source_of noted.new)) ⊎ IsIdle client.new) }
+        ensures last { self.now.requests ≤ P.count (source_of noted.old)
+            → OnOk result ((request : Option (List ℕ)) × RequestsKeeping client.old request client.new) }
+
+        // It is asked for its request, and what comes of the answer is taken, as often as the source counts, and
+        // nothing else is done to it: what is asked where no exchange is left has no answer. Want of memory came in an
+        // exchange behind some such ones.
+        ensures taken { P.count (source_of noted.old) < self.now.requests → OnOk result (FetchesAll
+            (TakenOf (P.speaks_for (source_of noted.old)) (P.answers (source_of noted.old)) (P.has_lost (source_of noted.new)))
+            (P.count (source_of noted.old)) (P.count (source_of noted.new)) client.old client.new) }
+        ensures fetches { OnOk result (FetchesSome Anything client.old client.new) }
+        ensures stops { OnErr result (StopsFetching Anything client.old client.new) }
+    {
+        let left = left(noted, self.requests);
+        if left == 0 {
+            client.request()?;
+            return Ok(());
+        }
+        match self.verbosity {
+            Verbosity::Nothing => {
+                fetch_pieces(client, noted, left)?;
+            }
+            Verbosity::Each => exchanges_told(self.rt, self.net, client, noted, left)?,
+            Verbosity::Progress => exchanges_drawn(self.rt, client, noted, left)?,
+        }
+        Ok(())
+    }
+
+    /// Reads the sides of a level, and then the whole of it. Where the file was replaced between, it begins again.
+    fn fetch_whole<P: Pieces>(
+        &self,
+        client: &mut Client,
+        noted: &mut Noted<P>,
+        level: u32,
+    ) -> Result<(), FetchError>
+        ensures reads { StillReads (P.speaks_for (source_of noted.old)) (P.speaks_for (source_of noted.new)) client.old client.new }
+        ensures asks { (book : Book) → ReadsBook (P.speaks_for (source_of noted.old)) client.old book
+            → OnOk result (AsksOf book (Whole level) client.new) }
+        ensures few { StaysWithin self.now.requests (P.count (source_of noted.old)) (P.count (source_of noted.new)) }
+
+        ensures ends { OnOk result (Ends (Whole level) self.now.requests (P.count (source_of noted.new)) client.old client.new) }
+
+        // Queries for what is asked are put one after another, and exchanged for, and nothing else is done to the client; want of memory
+        // came in the exchanges for the last of them.
+        ensures queries { OnOk result (ReadsSome (Whole level) client.old client.new) }
+        ensures stops { OnErr result (StopsReading (Whole level) client.old client.new) }
+    {
+        for _ in 0..self.requests {
+            client.open(Query::Info);
+            self.fetch(client, noted)?;
+            let Some((tag, window)) = whole_of(client, level) else {
+                return Ok(());
+            };
+            client.open(window);
+            self.fetch(client, noted)?;
+            if !has_another_tag(client, &tag) {
+                return Ok(());
+            }
+        }
+        client.open(Query::Info);
+        Ok(())
+    }
+
+    /// Ends the line that is drawn.
+    fn end_line(&self) {
+        if self.verbosity == Verbosity::Progress {
+            let _ = eprintln!(self.rt; "");
+        }
+    }
+
+    /// Reads what is asked over a source that is noted.
+    fn fetch_asked<P: Pieces>(
+        &self,
+        client: &mut Client,
+        noted: &mut Noted<P>,
+        asked: Asked,
+    ) -> Result<(), FetchError>
+        ensures reads { StillReads (P.speaks_for (source_of noted.old)) (P.speaks_for (source_of noted.new)) client.old client.new }
+        ensures asks { (book : Book) → ReadsBook (P.speaks_for (source_of noted.old)) client.old book
+            → OnOk result (AsksOf book asked client.new) }
+        ensures few { StaysWithin self.now.requests (P.count (source_of noted.old)) (P.count (source_of noted.new)) }
+        ensures ends { OnOk result (Ends asked self.now.requests (P.count (source_of noted.new)) client.old client.new) }
+
+        // Queries for what is asked are put one after another, and exchanged for, and nothing else is done to the client; want of memory
+        // came in the exchanges for the last of them.
+        ensures queries { OnOk result (ReadsSome asked client.old client.new) }
+        ensures stops { OnErr result (StopsReading asked client.old client.new) }
+    {
+        let query = match asked {
+            Asked::Query(query) => query,
+            Asked::Description(_) => Query::Info,
+            Asked::Whole { level } => return self.fetch_whole(client, noted, level),
+        };
+        client.open(query);
+        self.fetch(client, noted)
+    }
+
+    /// Reads what is asked over a source that is noted, and gives its text: a picture, whose samples the client lends, what Info tells,
+    /// or a description. What is told of each exchange goes to standard error, and so does why there is no text.
+    pub fn text<'c, P: Pieces>(
+        &self,
+        client: &'c mut Client,
+        noted: &mut Noted<P>,
+        asked: Asked,
+    ) -> Result<Text<'c>, ReadError>
+        // What is written is true of one publication of each book that the client reads and the source speaks for.
+        ensures truth { (book : Book)
+            → ReadsBook (P.speaks_for (source_of noted.old)) client.old book → WritesTrue (name_of client.old) book asked result }
+        // So many exchanges are made at most, and that no report stands is told only after them all, but of a whole level, which is
+        // read by several queries.
+        ensures few { StaysWithin self.now.requests (P.count (source_of noted.old)) (P.count (source_of noted.new)) }
+        ensures none { ((level : ℕ) → asked ≢ Whole level) → result ≡ Err NoReport
+            → self.now.requests ≤ P.count (source_of noted.new) }
+    {
+        let fetched = self.fetch_asked(client, noted, asked);
+        self.end_line();
+        fetched?;
+        self.text_at(client, asked)
+    }
+
+    /// The text of the report that stands. That there is none is told only where none stands, or of a whole level one that tells its sides.
+    fn text_at<'c>(&self, client: &'c Client, asked: Asked) -> Result<Text<'c>, ReadError>
+        ensures written { IsOfFile result
+            → (r : Report) × Stands client.now (Some r) × IsWritten asked r.tag r.outcome result }
+        ensures left { result ≡ Err NoReport → HasNothing asked (report_of client.now) }
+        ensures says { IfSome (report_of client.now) (λ r. IsWritten asked r.tag r.outcome result) }
+        ensures silent { report_of client.now ≡ None → result ≡ Err NoReport }
+    {
+        let Some(report) = client.report() else {
+            self.tell_no_report();
+            return Err(ReadError::NoReport);
+        };
+        self.text_of(client, report, asked)
+    }
+
+    /// Tells that no report stands.
+    fn tell_no_report(&self) {
+        if self.verbosity == Verbosity::Each {
+            let requests = self.requests;
+            let _ = eprintln!(self.rt;
+                "cogread: no report, and --requests allows no more than {requests}"
+            );
+        }
+    }
+
+    /// The text of a client's report. A fault of the file is told as one.
+    fn text_of<'c>(
+        &self,
+        client: &Client,
+        report: &'c Report,
+        asked: Asked,
+    ) -> Result<Text<'c>, ReadError>
+        requires { report_of client.now ≡ Some report.now }
+        ensures written { IsWritten asked report.now.tag report.now.outcome result }
+    {
+        let alloc = self.rt.alloc();
+        match &report.outcome {
+            Outcome::Window(window) => Ok(Text {
+                head: picture_head(alloc, window)?,
+                samples: &window.pixels,
+            }),
+            Outcome::Info(info) => match asked {
+                Asked::Query(_) => Ok(Text::from(info_text(alloc, &report.tag, info)?)),
+                Asked::Description(form) => match Description::of(alloc, client)? {
+                    Some(description) => {
+                        Ok(Text::from(description.text(alloc, form)?.into_bytes()))
+                    }
+                    None => Err(ReadError::NoReport),
+                },
+                Asked::Whole { .. } => Err(ReadError::NoReport),
+            },
+            Outcome::Fault(fault) => {
+                if self.verbosity == Verbosity::Each {
+                    let _ = eprintln!(self.rt; "cogread: {}", FaultSentence(*fault));
+                }
+                Err(ReadError::OfFile(*fault))
+            }
+        }
+    }
+}
+
+/// The sides of a level; of one that isn't there, those of one pixel.
+fn level_sides(info: &Info, level: u32) -> (u32, u32)
+    ensures { IfSome (slice_get info.now.sides.items level) (λ sides. sides ≡ result) }
+{
+    info.sides.get(level as usize).copied().unwrap_or((1, 1))
+}
+
+/// The tag that a client has told the sides of a file under, and the window that is the whole of a level. A level that isn't there has
+/// a window that isn't, either.
+#[tactic(auto, using(crate::proofs::WholeLemmas::whole_told))]
+fn whole_of(client: &Client, level: u32) -> Option<(Tag, Query)>
+    ensures whole { (book : Book) → HasDistinctTags book → ClientAgrees client.now book
+        → IfSome result (λ whole. IsOfWholeBy book whole.0 level whole.1) }
+    ensures asked { IfSome result (λ whole. IsAskedFor (Whole level) whole.1) }
+    ensures window { IfSome result (λ whole. whole.1 ≢ AnInfo) }
+    ensures told { IfSome result (λ whole. IsSomeAnd (report_of client.now) (λ r. r.tag ≡ whole.0)) }
+    ensures none { result ≡ None → IfSome (report_of client.now) (λ r. TellsSides (Whole level) r.outcome → ⊥) }
+{
+    law_fronts_are_read();
+    let report = client.report()?;
+    let Outcome::Info(info) = &report.outcome else {
+        return None;
+    };
+    let (w, h) = level_sides(info, level);
+    let (x, y, pick) = (0, 0, Pick::Level(level));
+    Some((report.tag.copy(), Query::Window { x, y, w, h, pick }))
+}
+
+/// Whether a client's report stands under another tag.
+fn has_another_tag(client: &Client, tag: &Tag) -> bool
+    ensures same { result ≡ false → IfSome (report_of client.now) (λ r. r.tag ≡ tag.now) }
+    ensures other { result ≡ true → IsSomeAnd (report_of client.now) (λ r. r.tag ≢ tag.now) }
+{
+    match client.report() {
+        Some(report) => report.tag != *tag,
+        None => false,
+    }
+}

@@ -1,0 +1,16 @@
+//! What each exchange with a server came to, noted where it passes, and told on standard error.
+#![tactic(auto)]
+
+mod clock;
+mod drawn;
+mod line;
+mod network;
+mod noted;
+mod sentences;
+mod told;
+
+pub use drawn::exchanges_drawn;
+pub use network::NotedNet;
+pub use noted::{Came, Noted, Progress};
+pub use sentences::{RefusalSentence, WhySentence};
+pub use told::exchanges_told;

@@ -1,0 +1,93 @@
+//! An exchange as the line that `cogread --verbose` tells.
+use crate::noted::Came;
+use crate::sentences::WhySentence;
+use cog_client::Tag;
+use http_range::Head;
+use std::fmt;
+use std::io::ErrorKind;
+use text_report::EscapedText;
+
+/// An exchange: what was asked, what came, how long it took, and what the client reads then.
+#[derive(Drop)]
+pub(crate) struct ExchangeLine<'c, 'n> {
+    /// The file's name.
+    pub name: &'c str,
+    /// The Range field of the request.
+    pub range: &'n str,
+    pub status: Option<&'n str>,
+    /// How many bytes came, those of the head among them.
+    pub bytes: u64,
+    pub milliseconds: u64,
+    pub came: Came,
+    /// Why the last connection wasn't made.
+    pub refusal: Option<ErrorKind>,
+    /// The tag that the client read before the exchange, and the one that it reads after it.
+    pub before: Option<Tag>,
+    pub after: Option<Tag>,
+    /// The length of the file that the client reads after it.
+    pub complete: Option<u64>,
+}
+
+/// A tag's text, as a terminal may see it. Without UTF-8 there is none.
+fn shown(tag: &Tag) -> EscapedText<'_> {
+    EscapedText(str::from_utf8(tag.as_bytes()).unwrap_or_default())
+}
+
+/// Whether a client reads the revision of this tag.
+fn reads(tag: &Option<Tag>, of: &Tag) -> bool {
+    match tag {
+        Some(tag) => tag == of,
+        None => false,
+    }
+}
+
+impl ExchangeLine<'_, '_> {
+    /// What the client made of the bytes that came behind a head.
+    fn write_brought<W: fmt::Write>(
+        &self,
+        f: &mut fmt::Formatter<W>,
+        head: &Head,
+        count: u64,
+    ) -> fmt::Result {
+        let tag = shown(&head.tag);
+        if !reads(&self.after, &head.tag) {
+            return write!(f, "of another content, tag {tag}: not taken");
+        }
+        if self.complete != Some(head.complete) {
+            let complete = head.complete;
+            return write!(
+                f,
+                "of a file of {complete} bytes, another length under tag {tag}: not taken"
+            );
+        }
+        if self.before.is_some() && !reads(&self.before, &head.tag) {
+            write!(f, "the file was replaced: ")?;
+        }
+        write!(f, "{count} bytes of the file, tag {tag}")?;
+        if count < head.length {
+            write!(f, "; the connection broke before {}", head.length)?;
+        }
+        Ok(())
+    }
+}
+
+impl fmt::Display for ExchangeLine<'_, '_> {
+    fn fmt<W: fmt::Write>(&self, f: &mut fmt::Formatter<W>) -> fmt::Result {
+        let (name, range, status) = (self.name, self.range, self.status);
+        let (bytes, milliseconds) = (self.bytes, self.milliseconds);
+        write!(f, "cogread: GET /{name} {range}: ")?;
+        if let Some(status) = status {
+            write!(f, "{status}, ")?;
+        }
+        write!(f, "{bytes} bytes, {milliseconds} ms: ")?;
+        match &self.came {
+            Came::Unsent => match self.refusal {
+                Some(kind) => write!(f, "no connection: {kind}"),
+                None => write!(f, "no connection: the server isn't HOST:PORT, or it broke"),
+            },
+            Came::Nothing => write!(f, "no answer came"),
+            Came::NotUsed(why) => write!(f, "{}", WhySentence(*why)),
+            Came::Brought(head, count) => self.write_brought(f, head, *count),
+        }
+    }
+}

@@ -1,0 +1,232 @@
+//! A source of answers in pieces that is another one, and notes what came of the last exchange.
+ghost use Rattle.std.specs.Prelude.{◌≡◌, ◌+◌, [], IfSome, false, length, min};
+ghost use Rattle.std.specs.Char.{is_ascii_digit};
+ghost use Rattle.std.specs.List.{AllPass};
+ghost use Rattle.read_progress.specs.Noted.{HasCome, NotesOf, bytes_of, front_of, sent_of, source_of};
+
+use cog_client::{Lost, Pieces, Why};
+use http_range::{Head, HeadReading, read_head, read_request};
+use std::alloc::Global;
+
+/// The most bytes of an answer's front that are noted: those that a head may have.
+const FRONT_ROOM: usize = 4096;
+
+/// What came of an exchange.
+#[derive(Debug, Drop)]
+pub enum Came {
+    /// The request wasn't sent.
+    Unsent,
+    /// Not one byte of an answer.
+    Nothing,
+    /// An answer that can't be used.
+    NotUsed(Why),
+    /// The head of an answer that brings a piece of a file, and so many bytes of its body.
+    Brought(Head, u64),
+}
+
+/// How far all exchanges have come.
+#[derive(Clone, Copy, Debug, PartialEq, Eq)]
+pub struct Progress {
+    /// How many ranges brought bytes of the file.
+    pub had: u64,
+    /// How many ranges were asked for.
+    pub asked: u64,
+    /// How many bytes came, those of heads among them.
+    pub bytes: u64,
+}
+
+/// Another source, whose requests and answers are noted as they pass. It speaks for what the other one speaks for.
+#[derive(Drop)]
+pub struct Noted<P> {
+    source: P,
+    is_sent: bool,
+    range: Vec<u8>,
+    front: Vec<u8>,
+    bytes: u64,
+    /// How far the exchanges before the last one had come.
+    before: Progress,
+}
+
+impl<P> Noted<P> {
+    /// A source of which nothing is noted so far.
+    pub fn new(alloc: Global, source: P) -> Noted<P>
+        ensures source { source_of result ≡ source }
+        ensures sent { sent_of result ≡ false }
+        ensures bytes { bytes_of result ≡ 0 }
+        ensures front { front_of result ≡ [] }
+    {
+        Noted {
+            source,
+            is_sent: false,
+            range: Vec::new(alloc),
+            front: Vec::new(alloc),
+            bytes: 0,
+            before: Progress {
+                had: 0,
+                asked: 0,
+                bytes: 0,
+            },
+        }
+    }
+
+    /// The Range field of the last request, as `bytes=0-65535`.
+    pub(crate) fn range(&self) -> &[u8] {
+        &self.range
+    }
+
+    /// The status of the last answer, by its three digits (RFC 9112, section 4). None where other bytes stand in their place.
+    pub(crate) fn status(&self) -> Option<&str>
+        ensures { IfSome result (λ text. AllPass is_ascii_digit text.now) }
+    {
+        let line = self.front.strip_prefix(b"HTTP/1.1 ".as_slice())?;
+        let digits = line.get(..3)?;
+        if !digits.iter().all(|byte| byte.is_ascii_digit()) {
+            return None;
+        }
+        str::from_utf8(digits).ok()
+    }
+
+    /// How many bytes came of the last answer, its head among them.
+    pub(crate) fn bytes(&self) -> u64 {
+        self.bytes
+    }
+
+    /// What came of the last exchange.
+    pub fn came(&self) -> Came
+        ensures { HasCome self.now result }
+    {
+        if !self.is_sent {
+            return Came::Unsent;
+        }
+        if self.bytes == 0 {
+            return Came::Nothing;
+        }
+        match read_head(&self.front) {
+            HeadReading::NotUsed(why) => Came::NotUsed(why),
+            HeadReading::Head(head) => {
+                let body = self.bytes.saturating_sub(head.size as u64);
+                let brought = body.min(head.length);
+                Came::Brought(head, brought)
+            }
+        }
+    }
+
+    /// How far all exchanges have come.
+    pub fn progress(&self) -> Progress {
+        let Progress { had, asked, bytes } = self.before;
+        let has_come = matches!(self.came(), Came::Brought(_, 1..));
+        Progress {
+            had: had.saturating_add(u64::from(has_come)),
+            asked,
+            bytes: bytes.saturating_add(self.bytes),
+        }
+    }
+
+    /// Notes a request, and drops what was noted before, but for how far it had come. What there is no memory for isn't noted.
+    fn note_request(&mut self, request: &[u8])
+        ensures source { source_of self.new ≡ source_of self.old }
+        ensures sent { sent_of self.new ≡ false }
+        ensures bytes { bytes_of self.new ≡ 0 }
+        ensures front { front_of self.new ≡ [] }
+    {
+        self.before = self.progress();
+        self.before.asked = self.before.asked.saturating_add(1);
+        self.is_sent = false;
+        self.bytes = 0;
+        self.front.clear();
+        self.range.clear();
+        if let Some(request) = read_request(request)
+            && let Some(range) = request.only(b"range")
+        {
+            let _ = self.range.extend_from_slice(range);
+        }
+    }
+
+    /// Notes the next bytes of the answer: behind the front, unless bytes of that are missing.
+    fn note_piece(&mut self, piece: &[u8])
+        ensures source { source_of self.new ≡ source_of self.old }
+        ensures sent { sent_of self.new ≡ sent_of self.old }
+        ensures bytes { bytes_of self.new ≡ min (bytes_of self.old + length piece.now) 18446744073709551615 }
+        ensures front { NotesOf piece.now self.old self.new }
+    {
+        if self.bytes == self.front.len() as u64 {
+            let room = FRONT_ROOM.saturating_sub(self.front.len());
+            let front = &piece[..piece.len().min(room)];
+            let _ = self.front.extend_from_slice(front);
+        }
+        self.bytes = self.bytes.saturating_add(piece.len() as u64);
+    }
+}
+
+impl<P: Pieces> Pieces for Noted<P> {
+    ghost use Rattle.std.specs.Prelude.{◌≡◌, ◌+◌, ◌<◌, ◌≤◌, ◌^◌, [], IfOk, IsTrue, OnErr, OnOk, is_ok, length, min, take};
+    ghost use Rattle.cog_client.specs.Pieces.{BringsOf};
+    ghost use Rattle.cog_client.specs.Transport.{AnswersOn, IsTrueToAll, OrLost, SpeaksOn};
+    ghost use Rattle.read_progress.specs.Noted.{NotesOf, bytes_of, front_of, sent_of, source_of};
+
+    ghost speaks_for = { λ s. P.speaks_for (source_of s) };
+
+    ghost answers = { λ s. P.answers (source_of s) };
+
+    ghost has_lost = { λ s. P.has_lost (source_of s) };
+
+    ghost count = { λ s. P.count (source_of s) };
+
+    ghost rest = { λ s. P.rest (source_of s) };
+
+    fn start(&mut self, request: &[u8]) -> Result<(), Lost>
+        requires { P.count (source_of self.old) + 1 < 2 ^ 64 }
+
+        // What came before isn't noted any more.
+        ensures sent { sent_of self.new ≡ is_ok result }
+        ensures bytes { bytes_of self.new ≡ 0 }
+        ensures front { front_of self.new ≡ [] }
+
+        // So it keeps the trait's law.
+        ensures answered { OnOk result (P.answers (source_of self.old) request.now (P.rest (source_of self.new))) }
+        ensures dropped { OnErr result (P.rest (source_of self.new) ≡ []) }
+        ensures told { OnErr result (IsTrue (P.has_lost (source_of self.new))) }
+        ensures kept { OnOk result (P.has_lost (source_of self.new) ≡ P.has_lost (source_of self.old)) }
+        ensures goes_on { AnswersOn (OrLost (P.answers (source_of self.old))) (OrLost (P.answers (source_of self.new))) }
+        ensures shows { OnOk result (IsTrueToAll (P.speaks_for (source_of self.old)) (P.rest (source_of self.new))) }
+        ensures speaks { SpeaksOn (P.speaks_for (source_of self.old)) (P.speaks_for (source_of self.new)) }
+        ensures counted { P.count (source_of self.new) ≡ P.count (source_of self.old) + 1 }
+    {
+        self.note_request(request);
+        let sent = self.source.start(request);
+        self.is_sent = sent.is_ok();
+        sent
+    }
+
+    fn next(&mut self, out: &mut [u8]) -> Result<usize, Lost>
+        requires { 0 < length out.old }
+
+        // The bytes that come are noted.
+        ensures sent { sent_of self.new ≡ sent_of self.old }
+        ensures bytes { IfOk result (λ n. bytes_of self.new ≡ min (bytes_of self.old + n) 18446744073709551615) }
+        ensures front { IfOk result (λ n. NotesOf (take n out.new) self.old self.new) }
+        ensures lost { OnErr result ((bytes_of self.new ≡ bytes_of self.old) × (front_of self.new ≡ front_of self.old)) }
+
+        // So it keeps the trait's law.
+        ensures fits { IfOk result (λ n. n ≤ length out.new) }
+        ensures brings { IfOk result (λ n. BringsOf (P.speaks_for (source_of self.old)) (P.rest (source_of self.old)) out.new n
+            (P.rest (source_of self.new))) }
+        ensures told { OnErr result (IsTrue (P.has_lost (source_of self.new))) }
+        ensures kept { OnOk result (P.has_lost (source_of self.new) ≡ P.has_lost (source_of self.old)) }
+        ensures goes_on { AnswersOn (OrLost (P.answers (source_of self.old))) (OrLost (P.answers (source_of self.new))) }
+        ensures speaks { SpeaksOn (P.speaks_for (source_of self.old)) (P.speaks_for (source_of self.new)) }
+        ensures counted { P.count (source_of self.new) ≡ P.count (source_of self.old) }
+    {
+        let count = self.source.next(out)?;
+        self.note_piece(&out[..count]);
+        Ok(count)
+    }
+
+    fn foresee(&mut self, requests: &[Vec<u8>]) {
+        self.source.foresee(requests);
+    }
+
+    fn starts(&self) -> u64 {
+        self.source.starts()
+    }
+}

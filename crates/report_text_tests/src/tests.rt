@@ -1,3 +1,0 @@
-//! Tests of the texts of reports.
-mod sentences;
-mod texts;

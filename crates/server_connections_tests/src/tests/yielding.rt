@@ -1,0 +1,127 @@
+//! Whose place a newcomer takes.
+use super::driving::{ASKS_A, CLOSES, give_at, server_of_two, take_at};
+use assertion_support::expect_eq;
+use cog_server::Server;
+use server_connections::Connections;
+use std::alloc::Global;
+use std::num::NonZeroUsize;
+use std::process::Abort;
+use std::test::Fail;
+
+/// What a connection of the table does after it is accepted.
+#[derive(Clone, Copy, Debug, PartialEq, Eq)]
+enum Doing {
+    /// Nothing came.
+    Idle,
+    /// A beginning of a message came.
+    Begun,
+    /// An answer waits to be written.
+    Answered,
+    /// The last answer is written.
+    Draining,
+}
+
+/// Accepts a connection at a moment, which then does this.
+fn accept(alloc: Global, connections: &mut Connections, doing: Doing, at: u64) -> Result<(), Fail> {
+    let server = server_of_two(alloc)?;
+    if connections.is_full() {
+        return Ok(());
+    }
+    let number = connections.accept(at)?;
+    begin(alloc, connections, &server, (number, doing, at))
+}
+
+/// Does this at a moment, by the connection of this number.
+fn begin(
+    alloc: Global,
+    connections: &mut Connections,
+    server: &Server,
+    (number, doing, at): (u64, Doing, u64),
+) -> Result<(), Fail> {
+    match doing {
+        Doing::Idle => {}
+        Doing::Begun => {
+            give_at(connections, number, b"GET")?;
+        }
+        Doing::Answered => {
+            give_at(connections, number, ASKS_A)?;
+            connections.go_on(number, server, at)?;
+        }
+        Doing::Draining => {
+            give_at(connections, number, CLOSES)?;
+            connections.go_on(number, server, at)?;
+            take_at(connections, number, usize::MAX, at, &mut Vec::new(alloc))?;
+        }
+    }
+    Ok(())
+}
+
+/// The connections of a table with their moments, which of them yields at the moment 100 with the patience 30, and when the
+/// table wakes.
+type Row<'a> = (&'a [(Doing, u64)], Option<u64>, Option<u64>);
+
+/// A table with these connections.
+fn table_of(alloc: Global, rows: &[(Doing, u64)]) -> Result<Connections, Fail> {
+    let limit = NonZeroUsize::new(rows.len()).ok_or("no rows")?;
+    let mut connections = Connections::new(alloc, limit)?;
+    for (doing, at) in rows {
+        accept(alloc, &mut connections, *doing, *at)?;
+    }
+    Ok(connections)
+}
+
+/// Expects each row.
+fn expect(rt: &(impl Abort + AllocGlobal), rows: &[Row<'_>]) -> Result<(), Fail> {
+    for (table, yields, wakes) in rows {
+        let connections = table_of(rt.alloc(), table)?;
+        expect_eq!(rt;
+            (connections.yields(100, 30), connections.wakes_at(30)),
+            (*yields, *wakes),
+            "{table:?}"
+        );
+    }
+    Ok(())
+}
+
+/// One drains, or one idles.
+#[rattlefmt::skip]
+const DRAIN_OR_IDLE: [Row<'static>; 4] = [
+    (&[(Doing::Idle, 90), (Doing::Draining, 99), (Doing::Begun, 1)], Some(1), Some(31)),
+    (&[(Doing::Draining, 98), (Doing::Draining, 97)], Some(1), Some(127)),
+    (&[(Doing::Begun, 1), (Doing::Idle, 95), (Doing::Idle, 94), (Doing::Idle, 96)], Some(2), Some(31)),
+    (&[(Doing::Answered, 1), (Doing::Idle, 100)], Some(1), Some(31)),
+];
+
+/// All are busy.
+#[rattlefmt::skip]
+const BUSY: [Row<'static>; 4] = [
+    (&[(Doing::Begun, 71), (Doing::Answered, 72)], None, Some(101)),
+    (&[(Doing::Begun, 71), (Doing::Answered, 70)], Some(1), Some(100)),
+    (&[(Doing::Begun, 69), (Doing::Answered, 70)], Some(0), Some(99)),
+    (&[(Doing::Answered, 200), (Doing::Begun, 300)], None, Some(230)),
+];
+
+/// One is alone.
+#[rattlefmt::skip]
+const ALONE: [Row<'static>; 4] = [
+    (&[(Doing::Idle, 1)], None, Some(31)),
+    (&[(Doing::Draining, 1)], None, Some(31)),
+    (&[(Doing::Begun, u64::MAX - 29)], None, None),
+    (&[(Doing::Begun, u64::MAX - 30)], None, Some(u64::MAX)),
+];
+
+#[test]
+fn takes_the_place_of_one_that_drains_or_idles(rt: HostRuntime) -> Result<(), Fail> {
+    expect(&rt, &DRAIN_OR_IDLE)
+}
+
+/// A busy one yields only where its patience has run out: at 70, and not at 71.
+#[test]
+fn takes_the_place_of_a_busy_one_behind_the_patience(rt: HostRuntime) -> Result<(), Fail> {
+    expect(&rt, &BUSY)
+}
+
+#[test]
+fn never_takes_the_only_place(rt: HostRuntime) -> Result<(), Fail> {
+    expect(&rt, &ALONE)
+}

@@ -1,0 +1,23 @@
+use Rattle.std.proofs.Common.{◌∙◌, sym, rules}
+use Rattle.std.proofs.lemmas.List.{length-set}
+use Rattle.server_files.proofs.PublishingLemmas.{each_then, names_set, others_then, served_then}
+use Rattle.server_files.proofs.publishing.publish_all.Goals as goal
+
+pub returns-in_err-publish_one-clause-names : goal.returns-in_err-publish_one-clause-names
+returns-in_err-publish_one-clause-names g c =
+    names_set c.loop-k.files c.loop-k.k c.publish_one.new.file _ c.publish_one.ensures.name ∙ c.loop-k.invariant.same
+
+pub returns-in_err-publish_one-clause-others : goal.returns-in_err-publish_one-clause-others
+returns-in_err-publish_one-clause-others g c =
+    others_then c.loop-k.files c.loop-k.k _ _ c.args.server.now c.loop-k.server c.publish_one.new.server (search rules) c.loop-k.invariant.same c.loop-k.invariant.others c.publish_one.ensures.others
+
+pub loop-k-preserved : goal.loop-k-preserved
+loop-k-preserved g c = record {
+  end = c.loop-k.invariant.end ∙ sym (length-set c.loop-k.files c.loop-k.k c.publish_one.new.file);
+  same = names_set c.loop-k.files c.loop-k.k c.publish_one.new.file _ c.publish_one.ensures.name ∙ c.loop-k.invariant.same;
+  served = served_then c.loop-k.files c.loop-k.k _ _ c.loop-k.server c.publish_one.new.server (search rules) c.loop-k.invariant.same c.publish_one.ensures.others
+      c.in_ok-publish_one.ensures.served c.loop-k.invariant.served;
+  each = each_then c.loop-k.files c.loop-k.k _ _ c.args.server.now c.loop-k.server c.publish_one.new.server (search rules) c.loop-k.invariant.same c.loop-k.invariant.each
+      c.in_ok-publish_one.ensures.next;
+  others = others_then c.loop-k.files c.loop-k.k _ _ c.args.server.now c.loop-k.server c.publish_one.new.server (search rules) c.loop-k.invariant.same c.loop-k.invariant.others c.publish_one.ensures.others;
+}

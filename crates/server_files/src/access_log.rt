@@ -1,0 +1,50 @@
+//! The log of a server, on standard error.
+use crate::error::ServeFilesError;
+use crate::lines::AnswerLine;
+use server_sockets::{AnswerLog, LoggedAnswer};
+use std::fmt::Display;
+use std::io;
+
+/// The log of a server, on standard error. It has a line for each answer, and for each file that isn't published. A line that can't
+/// be written is lost, and the next one is tried.
+#[derive(Drop)]
+pub struct AccessLog<'r, R> {
+    pub rt: &'r R,
+    /// Whether lines are written.
+    pub is_kept: bool,
+}
+
+impl<R: Eprint> AccessLog<'_, R> {
+    ghost use Rattle.std.specs.Prelude.{◌≡◌, IfErr, IsOk, IsTrue, false, Err};
+    ghost use Rattle.server_files.specs.declared.error.ServeFilesError.TheVariants.{CantWrite};
+
+    /// Prints `entry` as a line on standard error, where a log is kept.
+    pub fn print<D: Display + Drop>(&self, entry: D) {
+        if self.is_kept {
+            let _ = eprintln!(self.rt; "cogserve: {entry}");
+        }
+    }
+
+    /// Fails with `CantWrite` where standard output didn't take a line; `line` is the outcome of writing it. Where a log is kept, the line
+    /// is lost instead.
+    pub fn written(&self, line: io::Result<()>) -> Result<(), ServeFilesError<'static>>
+        ensures kept { IsTrue self.now.is_kept → IsOk result }
+        ensures written { IsOk line → IsOk result }
+        ensures lost { IfErr line (λ error. self.now.is_kept ≡ false → result ≡ Err (CantWrite error)) }
+    {
+        match line {
+            Err(error) if !self.is_kept => Err(ServeFilesError::CantWrite(error)),
+            _ => Ok(()),
+        }
+    }
+}
+
+impl<R: Eprint> AnswerLog for AccessLog<'_, R> {
+    fn is_on(&self) -> bool {
+        self.is_kept
+    }
+
+    fn note_answer(&mut self, message: Option<&[u8]>, answer: LoggedAnswer) {
+        self.print(AnswerLine { message, answer });
+    }
+}

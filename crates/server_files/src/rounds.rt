@@ -1,0 +1,131 @@
+//! Serving: round by round, as connections come and are ready.
+ghost use Rattle.std.specs.Prelude.{◌≡◌, ◌≤◌, ℕ, [], OnOk, max};
+ghost use Rattle.server_files.specs.Publishing.{KeepsOthersThan, names};
+ghost use Rattle.server_sockets.specs.Going.{AllWentOnOrStart};
+ghost use Rattle.server_sockets.specs.Places.{accepted_of, limits_of, places_of};
+
+use crate::access_log::AccessLog;
+use crate::clock::moment;
+use crate::error::ServeFilesError;
+use crate::lines::Listening;
+use crate::publishing::look_again;
+use cog_server::Server;
+use disk_files::Watched;
+use server_sockets::{Limits, Serving};
+use std::io;
+use std::io::ErrorKind;
+use std::net::{Net, TcpListener, TcpStream, ToSocketAddrs};
+use std::rt::{Clock, Files};
+
+/// Listens at the first address of `place` that can be bound. The system sets the length of the listen backlog.
+fn bind<R: Net>(rt: &R, place: &str) -> io::Result<TcpListener> {
+    let mut last = io::Error::from(ErrorKind::AddrNotAvailable);
+    for address in place.to_socket_addrs(rt)? {
+        match mio::net::TcpListener::bind(rt, address) {
+            Ok(listener) => return Ok(TcpListener::from(listener)),
+            Err(error) => last = error,
+        }
+    }
+    Err(last)
+}
+
+/// Listens at `place`, which is `HOST:PORT`, and prints a line of it. Logs the address that the system gave.
+pub fn listen<R>(
+    log: &AccessLog<'_, R>,
+    place: &str,
+) -> Result<TcpListener, ServeFilesError<'static>>
+where
+    R: Print + Eprint + Net<Listener = TcpListener, Stream = TcpStream>,
+{
+    let listener = match bind(log.rt, place) {
+        Ok(listener) => listener,
+        Err(error) => return Err(ServeFilesError::CantListen(error)),
+    };
+    log.written(println!(log.rt; "listening {place}"))?;
+    if let Ok(address) = listener.local_addr() {
+        log.print(Listening(address));
+    }
+    Ok(listener)
+}
+
+/// Prints a line for each connection that has ended, from line `printed + 1` on, and returns how many lines were printed so far. A line
+/// that can't be written is lost, and the next one is tried.
+fn print_served<R: Print>(rt: &R, printed: u32, ended: u32) -> u32
+    ensures { result ≡ max printed ended }
+{
+    for k in printed..ended {
+        let _ = println!(rt; "served {}", k + 1);
+    }
+    printed.max(ended)
+}
+
+/// Serves each connection that is ready, accepts new ones, and looks at the files where one came. Serves first, so that each connection
+/// that the last wait reported has its turn before an idle one is closed.
+#[tactic(auto, using(crate::proofs::RoundLemmas::went_or_started))]
+fn round<R: Files + Clock + Print + Eprint + AllocGlobal>(
+    log: &mut AccessLog<'_, R>,
+    server: &mut Server,
+    files: &mut [Watched<'_>],
+    serving: &mut Serving,
+) -> Result<(), ServeFilesError<'static>>
+    // Who has a place had it, and went on from there by events of its own, each answer from what was published before, or starts now.
+    ensures went { (now : ℕ) × AllWentOnOrStart server.old.catalogue now (places_of serving.old) (places_of serving.new) }
+    ensures limits { limits_of serving.new ≡ limits_of serving.old }
+    ensures others { KeepsOthersThan (names files.old) server.old server.new }
+    ensures names { names files.new ≡ names files.old }
+{
+    let now = moment(log.rt);
+    serving.turns(server, now, log);
+    if serving.accept(now)? > 0 {
+        look_again(log, server, files);
+    }
+    Ok(())
+}
+
+/// Serves in rounds until all connections were accepted, and each has ended. Fails with `CantWait` after 2^64 - 1 rounds.
+fn serve_rounds<R>(
+    log: &mut AccessLog<'_, R>,
+    server: &mut Server,
+    files: &mut [Watched<'_>],
+    serving: &mut Serving,
+) -> Result<(), ServeFilesError<'static>>
+where
+    R: Files + Clock + Print + Eprint + AllocGlobal,
+    ensures over { OnOk result (((limits_of serving.new).connections ≤ accepted_of serving.new) × (places_of serving.new ≡ [])) }
+    ensures limits { limits_of serving.new ≡ limits_of serving.old }
+    ensures others { KeepsOthersThan (names files.old) server.old server.new }
+    ensures names { names files.new ≡ names files.old }
+{
+    let mut printed = 0;
+    for _ in 0..u64::MAX {
+        round(log, server, files, serving)?;
+        printed = print_served(log.rt, printed, serving.ended());
+        if serving.is_over() {
+            return Ok(());
+        }
+        if let Err(error) = serving.wait(moment(log.rt)) {
+            return Err(ServeFilesError::CantWait(error));
+        }
+    }
+    Err(ServeFilesError::CantWait(io::Error::from(ErrorKind::Other)))
+}
+
+/// Serves connections within `limits`, until each has ended. Looks at the files when connections came, once for all that came together.
+pub fn serve_connections<R>(
+    log: &mut AccessLog<'_, R>,
+    server: &mut Server,
+    files: &mut [Watched<'_>],
+    listener: TcpListener,
+    limits: Limits,
+) -> Result<(), ServeFilesError<'static>>
+where
+    R: Files + Clock + Print + Eprint + AllocGlobal + Net,
+    ensures others { KeepsOthersThan (names files.old) server.old server.new }
+    ensures names { names files.new ≡ names files.old }
+{
+    let mut serving = match Serving::new(log.rt, listener, limits) {
+        Ok(serving) => serving,
+        Err(error) => return Err(ServeFilesError::CantListen(error)),
+    };
+    serve_rounds(log, server, files, &mut serving)
+}

@@ -1,0 +1,6 @@
+pub mod GoingLemmas
+pub mod PlacesLemmas
+pub mod PlaceLemmas
+pub mod RefusalLemmas
+pub mod RunLemmas
+pub mod TurnLemmas

@@ -1,0 +1,86 @@
+-- What nobody's coming is, and who keeps a place.
+use Rattle.std.proofs.Common.{◌≡◌, ◌∙◌, ◌+◌, ◌-◌, ◌<◌, ◌≤◌, ◌⊎◌, ℕ, arith, false, length, Option, None, Some, refl, sym, le_trans, subst, inl, inr}
+use Rattle.http_range.specs.Book.{Catalogue}
+use Rattle.server_connections.specs.declared.timed.Timed.{Timed}
+use Rattle.server_sockets.specs.declared.serving.Serving.{Serving}
+use Rattle.server_connections.specs.Table.{timed_at}
+use Rattle.server_connections.specs.Yielding.{MayYield}
+use Rattle.server_sockets.specs.Going.{AllWentOn}
+use Rattle.server_sockets.proofs.GoingLemmas.{all_on, all_still}
+use Rattle.server_sockets.specs.Turns.{HasStartedAt}
+use Rattle.server_sockets.specs.declared.serving.Limits.{Limits}
+use Rattle.server_sockets.specs.Places.{AllStart, KeepsAll, KeepsBusy, NobodyComes, NoneChanges, StayOrStart, accepted_of, limits_of, places_of, room_of}
+
+-- where nobody comes at first, nor then, nobody does
+pub nobody_yet : (a b c : Serving) → NobodyComes a b → NobodyComes b c → NobodyComes a c
+nobody_yet a b c first then = record {
+  places = λ k none. then.places k (first.places k none);
+  accepted = then.accepted ∙ first.accepted;
+  room = then.room ∙ first.room;
+  limits = then.limits ∙ first.limits;
+  ended = le_trans first.ended then.ended;
+}
+
+-- who keeps a place at first, and then, does
+pub busy_on : (now : ℕ) (a b c : Serving) → limits_of b ≡ limits_of a → KeepsBusy now a b → KeepsBusy now b c → KeepsBusy now a c
+busy_on now a b c limits first then k p there =
+    elim (first k p there) [
+      | inl may ↦ inl may
+      | inr stays ↦ elim (then k p stays) [
+        | inl may ↦ inl (subst (λ (l : Limits). MayYield now l.patience p) limits may)
+        | inr still ↦ inr still
+      ]
+    ]
+
+-- who is there is as it was, behind both
+pub same_on : (a b c : Serving) → NoneChanges a b → NoneChanges b c → NoneChanges a c
+same_on a b c first then k p there = first k p (then k p there)
+
+-- all went on, and then some lose their places
+pub went_still : (catalogue : Catalogue) (now : ℕ) (a b c : Serving) → AllWentOn catalogue now (places_of a) (places_of b) → NoneChanges b c
+    → AllWentOn catalogue now (places_of a) (places_of c)
+went_still catalogue now a b c went same =
+    all_on catalogue now (places_of a) (places_of b) (places_of c) went (all_still catalogue now (places_of b) (places_of c) same)
+
+-- who is there was there, or starts, where some lose their places
+pub start_fewer : (now : ℕ) (a b : Serving) → NoneChanges a b → StayOrStart now a b
+start_fewer now a b fewer k p there = inl (fewer k p there)
+
+-- and where one more comes behind that
+start_at : (now : ℕ) (a b c : Serving) → NoneChanges a b → KeepsAll b c → AllStart now b c → (k : ℕ) (p : Timed)
+    → timed_at k (places_of c) ≡ Some p → (before : Option Timed) → timed_at k (places_of b) ≡ before
+    → (timed_at k (places_of a) ≡ Some p) ⊎ HasStartedAt k now (places_of c)
+start_at now a b c fewer keeps then k p there None gone = inr (then k p gone there)
+start_at now a b c fewer keeps then k p there (Some q) has = inl (fewer k p (has ∙ sym (keeps k q has) ∙ there))
+
+pub start_more : (now : ℕ) (a b c : Serving) → NoneChanges a b → KeepsAll b c → AllStart now b c → StayOrStart now a c
+start_more now a b c fewer keeps then k p there = start_at now a b c fewer keeps then k p there (timed_at k (places_of b)) refl
+
+-- at first, and then
+pub start_on : (now : ℕ) (a b c : Serving) → StayOrStart now a b → StayOrStart now b c → StayOrStart now a c
+start_on now a b c first then k p there =
+    elim (then k p there) [
+      | inr starts ↦ inr starts
+      | inl stays ↦ elim (first k p stays) [
+        | inl was ↦ inl was
+        | inr started ↦ inr (there ∙ sym stays ∙ started)
+      ]
+    ]
+
+-- who keeps its place as long as there is room for each newcomer, and more
+pub spared_on : (a b c : Serving) → room_of b ≡ room_of a → accepted_of a ≤ accepted_of b → accepted_of b ≤ accepted_of c
+    → length (places_of b) ≤ length (places_of a) + (accepted_of b - accepted_of a)
+    → (a.out_of_descriptors ≡ false → b.out_of_descriptors ≡ false)
+    → (a.out_of_descriptors ≡ false → length (places_of a) + (accepted_of b - accepted_of a) < room_of a → KeepsAll a b)
+    → (b.out_of_descriptors ≡ false → length (places_of b) < room_of b → KeepsAll b c)
+    → a.out_of_descriptors ≡ false → length (places_of a) + (accepted_of c - accepted_of a) < room_of a → KeepsAll a c
+spared_on a b c room more again places fed first then is-fed free k p there =
+    then (fed is-fed) (omega (arith, room, more, again, places, free)) k p
+    (first is-fed (omega (arith, more, again, free)) k p there)
+
+-- what becomes of the connections where others are accepted, where the next one is, and where each has its turn
+pub ruleset accepting = (busy_on, start_on, spared_on)
+
+pub ruleset accepting_one = (busy_on, start_more, start_fewer)
+
+pub ruleset taking_turns = (nobody_yet, all_on, went_still)

@@ -1,0 +1,56 @@
+-- How connections go on.
+use Rattle.std.specs.Prelude.{◌≡◌, ◌⊎◌, ◌==◌, ℕ, not, if◌then◌else◌, Bool, true, false, List, [], Some, IsSomeAnd}
+use Rattle.std.specs.List.{list_any}
+use Rattle.http_range.specs.Book.{Catalogue}
+use Rattle.cog_server.specs.Run.{AreFrom, CanRun, Event, IsAnsweredAlone, Past, none_yet, run}
+use Rattle.cog_server.specs.Run.Event.{Came, Came_to_end, Answered, Wrote}
+use Rattle.cog_server.specs.Status.{Status}
+use Rattle.server_connections.specs.declared.timed.Timed.{Timed}
+use Rattle.server_connections.specs.Table.{Table, timed_at}
+use Rattle.server_sockets.specs.Turns.{HasStartedAt}
+
+-- nothing has happened since it was so
+abbrev pub since : Status → Past
+since s = record { given = []; written = []; exchanges = []; status = s }
+
+-- a message is answered, or a byte of an answer taken
+abbrev pub is_progress : Event → Bool
+is_progress (Came bytes) = false
+is_progress Came_to_end = false
+is_progress (Answered e) = true
+is_progress (Wrote n) = not (n == 0)
+
+-- The connection went on from there by events that may happen, each message answered from this catalogue. Where there was progress, it
+-- was at this moment.
+pub record WentOn (catalogue : Catalogue) (now : ℕ) (old new : Timed) : Type 0 where
+  pub events : List Event
+  pub can : CanRun events (since old.connection)
+  pub from : AreFrom catalogue (run events (since old.connection)).exchanges
+  pub connection : new.connection ≡ (run events (since old.connection)).status
+  pub progress : new.progress ≡ (if list_any is_progress events then now else old.progress)
+
+-- who has a place had it, and went on from there by events of its own, each answer from this catalogue
+pub record AllWentOn (catalogue : Catalogue) (now : ℕ) (old new : Table) : Type 0 where
+  pub each : (k : ℕ) (p : Timed) → timed_at k new ≡ Some p → IsSomeAnd (timed_at k old) (λ before. WentOn catalogue now before p)
+
+-- who has a place went on so, or starts at this moment
+pub record AllWentOnOrStart (catalogue : Catalogue) (now : ℕ) (old new : Table) : Type 0 where
+  pub each : (k : ℕ) (p : Timed) → timed_at k new ≡ Some p
+      → IsSomeAnd (timed_at k old) (λ before. WentOn catalogue now before p) ⊎ HasStartedAt k now new
+
+-- ---- from the start
+
+-- a connection came so far from its start by events that may happen, and by these it was answered as if it were alone
+pub record HasRun (s : Status) : Type 0 where
+  pub events : List Event
+  pub can : CanRun events none_yet
+  pub status : s ≡ (run events none_yet).status
+  pub alone : IsAnsweredAlone (run events none_yet)
+
+-- each that has a place did
+abbrev pub AllHaveRun : Table → Type 0
+AllHaveRun table = (k : ℕ) (p : Timed) → timed_at k table ≡ Some p → HasRun p.connection
+
+-- whoever goes on, or starts, from whatever catalogue, at whatever moment
+abbrev pub RunsGoOn : Type 0
+RunsGoOn = (catalogue : Catalogue) (now : ℕ) (old new : Table) → AllWentOnOrStart catalogue now old new → AllHaveRun old → AllHaveRun new

@@ -1,0 +1,5 @@
+pub mod Places
+pub mod Refusals
+pub mod Turns
+pub mod Draining
+pub mod Going

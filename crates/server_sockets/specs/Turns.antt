@@ -1,0 +1,42 @@
+-- What a connection's turn does, and when it comes to an end.
+use Rattle.std.specs.Prelude.{◌≡◌, ℕ, nat_eq, IfSome, IsSomeAnd, IsTrue, None, Some, is_some}
+use Rattle.std.specs.HashMap.{HashMap, get}
+use Rattle.std.specs.Map.{remove_entry}
+use Rattle.cog_server.specs.Status.{EndsBy, is_drained, start}
+use Rattle.cog_server.specs.declared.served.Ended.{Ended}
+use Rattle.server_connections.specs.declared.table.Connections.{Connections}
+use Rattle.server_connections.specs.Table.{Table, OthersStay, timed_at}
+use Rattle.server_connections.specs.Yielding.{Yields}
+
+-- every connection but k is as it was, k has its place or none as before, there may be as many, and the next number is the same
+pub record KeepsPlaces (k : ℕ) (old new : Connections) : Type 0 where
+  pub here : is_some (timed_at k new.table.entries) ≡ is_some (timed_at k old.table.entries)
+  pub others : OthersStay k old.table.entries new.table.entries
+  pub cap : new.table.cap ≡ old.table.cap
+  pub next : new.next ≡ old.next
+
+-- connection k has its place, and starts at this moment: nothing came on it, and its progress is counted from now on
+abbrev pub HasStartedAt : ℕ → ℕ → Table → Type 0
+HasStartedAt k now table = timed_at k table ≡ Some (record { connection = start; progress = now })
+
+-- all answers of connection k are written, and no more come; or there is no such connection
+abbrev pub HasEndedAt : ℕ → Table → Type 0
+HasEndedAt k table = IfSome (timed_at k table) (λ p. (ended : Ended) × EndsBy p.connection (Some ended))
+
+-- there is a connection k, and not all its answers are written, or more may come
+abbrev pub IsOpenAt : ℕ → Table → Type 0
+IsOpenAt k table = IsSomeAnd (timed_at k table) (λ p. EndsBy p.connection None)
+
+-- nothing more may come on connection k, or there is no such connection
+abbrev pub IsDrainedAt : ℕ → Table → Type 0
+IsDrainedAt k table = IfSome (timed_at k table) (λ p. IsTrue (is_drained p.connection))
+
+-- at a moment a connection whose place a newcomer takes is taken away, and no other
+abbrev pub GivesPlace : ℕ → ℕ → Table → Table → Type 0
+GivesPlace now patience old new =
+    (k : ℕ) × Yields now patience old (Some k) × (new ≡ remove_entry (nat_eq k) old)
+
+-- a connection has a socket exactly as long as it has a place, and it is the one of its number
+pub record HaveSockets {ConnectionSocket S : Type 0} (number_of : ConnectionSocket → ℕ) (sockets : HashMap ℕ ConnectionSocket S) (table : Table) : Type 0 where
+  pub placed : (k : ℕ) → is_some (get nat_eq sockets k) ≡ is_some (timed_at k table)
+  pub own : (k : ℕ) (socket : ConnectionSocket) → get nat_eq sockets k ≡ Some socket → number_of socket ≡ k

@@ -1,0 +1,131 @@
+//! A log of the answers on connections, each with the message that it answers.
+ghost use Rattle.std.specs.Prelude.{◌≡◌};
+
+use http_range::{law_messages_stay, message_length};
+use server_connections::Connections;
+use std::alloc::Global;
+
+/// An answer on a connection.
+#[derive(Clone, Copy, Debug, PartialEq, Eq)]
+pub struct LoggedAnswer {
+    /// The number of the connection, from 1 on.
+    pub connection: u64,
+    /// The status code.
+    pub status: u16,
+    /// The length of the body in bytes.
+    pub length: usize,
+}
+
+/// A log of answers.
+pub trait AnswerLog {
+    /// Returns whether answers are logged.
+    fn is_on(&self) -> bool;
+
+    /// Logs an answer, once it is made. `message` is the message that it answers, or `None` where memory for it was short.
+    fn note_answer(&mut self, message: Option<&[u8]>, answer: LoggedAnswer);
+}
+
+/// A log that keeps nothing.
+#[derive(Clone, Copy, Debug)]
+pub struct NoLog;
+
+impl AnswerLog for NoLog {
+    fn is_on(&self) -> bool {
+        false
+    }
+
+    fn note_answer(&mut self, _message: Option<&[u8]>, _answer: LoggedAnswer) {}
+}
+
+/// The bytes that came on a connection and aren't answered yet. They are kept for a log that is on.
+#[derive(Drop)]
+pub struct UnansweredInput {
+    bytes: Vec<u8>,
+    is_kept: bool,
+}
+
+impl UnansweredInput {
+    /// Makes an empty one.
+    pub fn new(alloc: Global) -> UnansweredInput {
+        UnansweredInput {
+            bytes: Vec::new(alloc),
+            is_kept: true,
+        }
+    }
+
+    /// Keeps the bytes that came. Where memory for them is short, nothing is kept from then on.
+    fn keep(&mut self, bytes: &[u8]) {
+        if self.is_kept && self.bytes.extend_from_slice(bytes).is_err() {
+            self.is_kept = false;
+        }
+    }
+
+    /// Returns the next message, or `None` where it isn't whole, or where some of the bytes weren't kept.
+    fn next(&self) -> Option<&[u8]> {
+        law_messages_stay();
+        if !self.is_kept {
+            return None;
+        }
+        let length = message_length(&self.bytes, 0)?;
+        Some(&self.bytes[..length])
+    }
+
+    /// Drops the first `length` bytes, which are answered.
+    fn skip(&mut self, length: usize) {
+        let left = self.bytes.len().saturating_sub(length);
+        self.bytes.copy_within(length.min(self.bytes.len()).., 0);
+        self.bytes.truncate(left);
+    }
+}
+
+/// The log, with what it needs to know of one connection.
+#[derive(Drop)]
+pub struct ConnectionLog<'a, A> {
+    /// The bytes of the connection that aren't answered yet.
+    pub unanswered: &'a mut UnansweredInput,
+    pub log: &'a mut A,
+}
+
+impl<A: AnswerLog> ConnectionLog<'_, A> {
+    /// Keeps the bytes that came on the connection, where the log is on.
+    pub fn came(&mut self, bytes: &[u8])
+        ensures unanswered { self.new.unanswered.ghost_name ≡ self.old.unanswered.ghost_name }
+    {
+        if self.log.is_on() {
+            self.unanswered.keep(bytes);
+        }
+    }
+
+    /// Logs the answer that waits on the connection, where the log is on. `number` is the connection's number, and `status` the answer's
+    /// status code.
+    pub fn answered(&mut self, connections: &Connections, number: u64, status: u16)
+        ensures unanswered { self.new.unanswered.ghost_name ≡ self.old.unanswered.ghost_name }
+    {
+        if self.log.is_on() {
+            log_answer(self.unanswered, self.log, connections, number, status);
+        }
+    }
+}
+
+/// Logs the answer that waits on connection `number`, and drops the message that it answers.
+fn log_answer<A: AnswerLog>(
+    unanswered: &mut UnansweredInput,
+    log: &mut A,
+    connections: &Connections,
+    number: u64,
+    status: u16,
+) {
+    let Some(timed) = connections.get(number) else {
+        return;
+    };
+    let (_head, body) = timed.connection.waiting();
+    let answer = LoggedAnswer {
+        connection: number.saturating_add(1),
+        status,
+        length: body.len(),
+    };
+    let message = unanswered.next();
+    log.note_answer(message, answer);
+    let count = message.map_or(0, |message| message.len());
+    unanswered.skip(count);
+}

@@ -1,0 +1,117 @@
+//! Bytes between a connection and its socket.
+ghost use Rattle.std.specs.Prelude.{◌≡◌, ◌≤◌, IfErr, IfOk, IfSome, OnErr, length, take};
+ghost use Rattle.std.specs.IoError.{error_kind};
+ghost use Rattle.std.specs.declared.io.ErrorKind.TheVariants.{OutOfMemory};
+ghost use Rattle.cog_server.specs.Received.{after_read};
+ghost use Rattle.cog_server.specs.Status.{room_of};
+ghost use Rattle.server_connections.specs.Table.{Changes, GoesOnAt, timed_after_write, timed_at};
+ghost use Rattle.server_sockets.specs.Turns.{KeepsPlaces};
+
+use cog_server::Server;
+use http_range::Memory;
+use mio::net::TcpStream;
+use server_connections::Connections;
+use std::io;
+use std::io::{ErrorKind, IoSlice, Read, Write};
+
+/// The socket of a connection, with the connection's number.
+#[derive(Drop)]
+pub struct ConnectionSocket {
+    pub number: u64,
+    pub stream: TcpStream,
+}
+
+/// Returns the error of a socket for which memory is short.
+fn memory(_error: Memory) -> io::Error
+    ensures { error_kind result ≡ OutOfMemory }
+{
+    io::Error::from(ErrorKind::OutOfMemory)
+}
+
+/// Writes at most `most` bytes of what waits on a connection at moment `now`, and returns how many were written. Writes the head and the
+/// body by one call, and copies no byte.
+pub fn write_some(
+    connections: &mut Connections,
+    socket: &ConnectionSocket,
+    most: usize,
+    now: u64,
+) -> io::Result<usize>
+    ensures few { IfOk result (λ n. n ≤ most) }
+    ensures waits { IfOk result (λ n. IfSome (timed_at socket.now.number connections.old.table.entries)
+        (λ p. n ≤ length p.connection.waiting)) }
+    ensures wrote { IfOk result (λ n. Changes socket.now.number (timed_after_write n now)
+        connections.old.table.entries connections.new.table.entries) }
+    ensures err { OnErr result (Changes socket.now.number (λ p. p) connections.old.table.entries connections.new.table.entries) }
+    ensures kept { KeepsPlaces socket.now.number connections.old connections.new }
+{
+    let number = socket.number;
+    let mut stream = &socket.stream;
+    let Some(timed) = connections.get(number) else {
+        return Ok(0);
+    };
+    let (head, body) = timed.connection.waiting();
+    let head = &head[..head.len().min(most)];
+    let body = &body[..body.len().min(most - head.len())];
+    let n = if body.is_empty() {
+        stream.write(head)?
+    } else {
+        stream.write_vectored(&[IoSlice::new(head), IoSlice::new(body)])?
+    };
+    if n == 0 {
+        return Err(io::Error::from(ErrorKind::WriteZero));
+    }
+    connections.wrote(number, n, now);
+    Ok(n)
+}
+
+/// Takes the bytes that have come on a connection, and returns how many were taken. They stand at the front of `buffer`. Takes at most as
+/// many as the connection and `buffer` have room for.
+pub fn read_some(
+    connections: &mut Connections,
+    socket: &ConnectionSocket,
+    buffer: &mut [u8],
+) -> io::Result<usize>
+    ensures within { IfOk result (λ n. n ≤ length buffer.new) }
+    ensures room { IfOk result (λ n. IfSome (timed_at socket.now.number connections.old.table.entries)
+        (λ p. n ≤ room_of p.connection)) }
+    ensures came { IfOk result (λ n. Changes socket.now.number
+        (λ p. record p { connection = after_read (take n buffer.new) p.connection })
+        connections.old.table.entries connections.new.table.entries) }
+    ensures err { OnErr result (Changes socket.now.number (λ p. p) connections.old.table.entries connections.new.table.entries) }
+    ensures kept { KeepsPlaces socket.now.number connections.old connections.new }
+{
+    let number = socket.number;
+    let mut stream = &socket.stream;
+    let Some(timed) = connections.get(number) else {
+        return Ok(0);
+    };
+    let room = timed.connection.room().min(buffer.len());
+    let n = stream.read(&mut buffer[..room])?;
+    if n == 0 {
+        connections.came_to_end(number);
+    } else {
+        connections.came(number, &buffer[..n]).map_err(memory)?;
+    }
+    Ok(n)
+}
+
+/// Answers the next message of connection `number` at moment `now`, and returns the status code. Returns `None` where no message is
+/// answered.
+pub fn answer(
+    connections: &mut Connections,
+    number: u64,
+    server: &Server,
+    now: u64,
+) -> io::Result<Option<u16>>
+    ensures ok { IfOk result (GoesOnAt server.now.catalogue number now (timed_at number connections.old.table.entries)
+        connections.old.table.entries connections.new.table.entries) }
+    ensures err { OnErr result (Changes number (λ p. p) connections.old.table.entries connections.new.table.entries) }
+    // Only memory may be short.
+    ensures memory { IfErr result (λ error. error_kind error ≡ OutOfMemory) }
+    ensures kept { KeepsPlaces number connections.old connections.new }
+{
+    match connections.go_on(number, server, now) {
+        Ok(status) => Ok(status),
+        Err(error) => Err(memory(error)),
+    }
+}

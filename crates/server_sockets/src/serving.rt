@@ -1,0 +1,471 @@
+//! The sockets of a server: which connection gets a slot, which one is served next, and how long to wait.
+ghost use Rattle.std.specs.Prelude.{◌≡◌, ◌≢◌, ◌+◌, ◌-◌, ◌*◌, ◌<◌, ◌≤◌, ◌^◌, ◌⊎◌, ◌↔◌, ◌++◌, ◌∷◌, ℕ, [], IfErr, IfOk, IfSome, IsOk, IsSomeAnd, IsTrue, None, Ok, OnErr, OnOk, Some, drop, false, length, slice_get, true};
+ghost use Rattle.std.specs.IoError.{error_kind};
+ghost use Rattle.std.specs.NonZero.{non_zero_usize_get};
+ghost use Rattle.std.specs.declared.io.ErrorKind.TheVariants.{WouldBlock};
+ghost use Rattle.server_connections.specs.Table.{OthersStay, timed_at};
+ghost use Rattle.mio.specs.Events.{capacity};
+ghost use Rattle.server_sockets.specs.Draining.{IsReadyAt, drain_of};
+ghost use Rattle.server_sockets.specs.Going.{AllWentOn};
+ghost use Rattle.server_sockets.specs.Places.{AllStart, IsLookedAt, IsWaitedFor, HasNoPlace, KeepsAll, KeepsBusy, NoneChanges, NobodyComes, NobodyYields, Rests, StayOrStart, accepted_of, ended_of, limits_of, next_of, places_of, room_of, WakesBy, WakesIn};
+ghost use Rattle.server_sockets.specs.Refusals.{HasNoRoom, IsBarred, IsLasting, IsOfAsking, IsPassing};
+ghost use Rattle.server_sockets.specs.Turns.{GivesPlace, HasStartedAt};
+ghost use Rattle.server_sockets.specs.declared.refusal.AcceptError.TheVariants.{Accept};
+ghost use Rattle.server_sockets.specs.declared.turn.Turn.TheVariants.{Ended, Failed, GoesOn, Waits};
+
+mod waiting;
+
+use crate::answer_log::AnswerLog;
+use crate::drain::{DRAIN, Drain};
+use crate::events::{LISTENER, note};
+use crate::open_connections::OpenConnections;
+use crate::refusal::{AcceptError, Refusal, refusal_of};
+use crate::turn::Turn;
+use cog_server::Server;
+use http_range::{MESSAGE_LIMIT, Memory};
+use mio::net::{TcpListener, TcpStream};
+use mio::{Events, Interest, Poll};
+use std::collections::VecDeque;
+use std::io::ErrorKind;
+use std::net::Net;
+use std::num::NonZeroUsize;
+use std::{io, net};
+
+/// The most events of one wait.
+const EVENTS: usize = 65_536;
+
+/// How many connections a server accepts, and how long one keeps its slot.
+#[derive(Clone, Copy, Debug, PartialEq, Eq)]
+pub struct Limits {
+    /// How many connections are accepted in all.
+    pub connections: u32,
+    /// How many connections are open at once: the number of slots.
+    pub at_once: NonZeroUsize,
+    /// How many milliseconds a connection without progress keeps its slot while another one waits for it.
+    pub patience: u64,
+}
+
+/// The sockets of a server. All moments are milliseconds of one clock.
+#[derive(Drop)]
+pub struct Serving {
+    poll: Poll,
+    events: Events,
+    listener: TcpListener,
+    limits: Limits,
+    open_connections: OpenConnections,
+    /// The numbers of the connections that are ready for their turn.
+    ready: VecDeque<u64>,
+    /// The drains, in the order in which they end.
+    drains: VecDeque<Drain>,
+    buffer: Vec<u8>,
+    /// Whether a connection may wait in the listen backlog.
+    accept_pending: bool,
+    /// Whether the system had no room for a connection, since one was last accepted or none waited.
+    out_of_descriptors: bool,
+    /// Whether the system barred a connection, since one was last accepted or none waited.
+    is_barred: bool,
+    accepted: u32,
+}
+
+impl Serving {
+    /// Starts to listen with `listener`, without a connection.
+    pub fn new<R: Net + AllocGlobal>(
+        rt: &R,
+        listener: net::TcpListener,
+        limits: Limits,
+    ) -> io::Result<Self>
+        ensures none { IfOk result (λ s. (accepted_of s ≡ 0) × (ended_of s ≡ 0) × (places_of s ≡ [])) }
+        ensures rests { IfOk result Rests }
+        ensures limits { IfOk result (λ s. limits_of s ≡ limits) }
+        ensures room { IfOk result (λ s. room_of s ≡ non_zero_usize_get limits.at_once) }
+        // One wait may report each connection, and the listener.
+        ensures events { non_zero_usize_get limits.at_once < 65536
+            → IfOk result (λ s. capacity s.events ≡ non_zero_usize_get limits.at_once + 1) }
+    {
+        let most = limits.at_once.get().saturating_add(1).min(EVENTS);
+        listener.set_nonblocking(true)?;
+        let mut listener = TcpListener::from_std(listener);
+        let poll = Poll::new(rt)?;
+        poll.registry()
+            .register(&mut listener, LISTENER, Interest::READABLE)?;
+        let alloc = rt.alloc();
+        let Ok(open_connections) = OpenConnections::new(alloc, limits.at_once) else {
+            return Err(io::Error::from(ErrorKind::OutOfMemory));
+        };
+        Ok(Serving {
+            poll,
+            events: Events::with_capacity(alloc, most)?,
+            listener,
+            limits,
+            open_connections,
+            ready: VecDeque::new(alloc),
+            drains: VecDeque::new(alloc),
+            buffer: vec![in alloc; 0u8; MESSAGE_LIMIT]?,
+            accept_pending: true,
+            out_of_descriptors: false,
+            is_barred: false,
+            accepted: 0,
+        })
+    }
+
+    /// Returns how many connections have ended. One ends once all its answers are written, or where it fails or is closed for another one.
+    pub fn ended(&self) -> u32
+        ensures { result ≡ ended_of self.now }
+    {
+        self.open_connections.ended()
+    }
+
+    /// Returns whether all connections were accepted, and each is closed.
+    pub fn is_over(&self) -> bool
+        ensures { IsTrue result ↔ ((limits_of self.now).connections ≤ accepted_of self.now) × (places_of self.now ≡ []) }
+    {
+        self.accepted >= self.limits.connections && self.open_connections.is_empty()
+    }
+
+    /// Accepts the connections in the listen backlog that get a slot at moment `now`, and returns how many. In all, no more are accepted
+    /// than the limits allow. Fails where no connection can be accepted any more.
+    #[tactic(auto, using(crate::proofs::PlacesLemmas::accepting))]
+    pub fn accept(&mut self, now: u64) -> Result<u32, AcceptError>
+        ensures counted { IfOk result (λ count. accepted_of self.new ≡ accepted_of self.old + count) }
+        ensures few { accepted_of self.old ≤ (limits_of self.old).connections
+            → accepted_of self.new ≤ (limits_of self.old).connections }
+        ensures limits { limits_of self.new ≡ limits_of self.old }
+        ensures room { room_of self.new ≡ room_of self.old }
+        ensures ended { ended_of self.old ≤ ended_of self.new }
+        ensures last { IfErr result IsLasting }
+
+        // Nothing changes where the backlog is empty, nor once all connections were accepted.
+        ensures quiet { self.old.accept_pending ≡ false → self.new ≡ self.old }
+        ensures full { (limits_of self.old).connections ≤ accepted_of self.old → self.new ≡ self.old }
+        // Nothing changes where there is no slot for another connection.
+        ensures waits { HasNoPlace now self.old → self.new ≡ self.old }
+
+        // No connection loses its slot, but one that may lose it.
+        ensures busy { KeepsBusy now self.old self.new }
+        // Where there are more free slots than connections are accepted, none loses its slot.
+        ensures spared { self.old.out_of_descriptors ≡ false
+            → length (places_of self.old) + (accepted_of self.new - accepted_of self.old) < room_of self.old
+            → KeepsAll self.old self.new }
+        // Each connection that has a slot is as it was, or starts at this moment.
+        ensures newcomers { StayOrStart now self.old self.new }
+        ensures numbers { next_of self.new ≤ next_of self.old + (accepted_of self.new - accepted_of self.old) }
+    {
+        let before = self.accepted;
+        for _ in 0..u32::MAX {
+            if !self.accept_next(now)? {
+                break;
+            }
+        }
+        Ok(self.accepted.saturating_sub(before))
+    }
+
+    /// Gives each connection that is ready its turn at moment `now`, and closes those whose drain ends. Each answer is logged in `log`.
+    #[tactic(auto, using(crate::proofs::PlacesLemmas::taking_turns))]
+    pub fn turns<A: AnswerLog>(&mut self, server: &Server, now: u64, log: &mut A)
+        ensures nobody { NobodyComes self.old self.new }
+        // Each connection that has a slot had it, and went on from there by events of its own. Each answer is from this catalogue.
+        ensures went { AllWentOn server.now.catalogue now (places_of self.old) (places_of self.new) }
+        // The first drain that is left hasn't ended yet.
+        ensures over { IfSome (slice_get self.new.drains.items 0) (λ drain. now < drain.ends) }
+    {
+        for _ in 0..self.ready.len() {
+            if let Some(number) = self.ready.pop_front() {
+                self.turn(number, server, now, log);
+            }
+        }
+        self.end_drains(now);
+    }
+
+    /// Waits until a connection is ready, one is in the listen backlog, or a moment comes at which something is due.
+    #[tactic(auto, using(crate::proofs::PlacesLemmas::nobody_yet))]
+    pub fn wait(&mut self, now: u64) -> io::Result<()>
+        ensures nobody { NobodyComes self.old self.new }
+        ensures same { NoneChanges self.old self.new }
+    {
+        let timeout = self.timeout(now);
+        self.poll.poll(&mut self.events, timeout)?;
+        if note(&self.events, &mut self.open_connections, &mut self.ready) {
+            self.accept_pending = true;
+        }
+        Ok(())
+    }
+
+    /// Returns whether a connection is to be accepted, and one may wait in the listen backlog.
+    fn is_awaited(&self) -> bool
+        ensures awaited { IsTrue result ↔ (self.now.accept_pending ≡ true) × (accepted_of self.now < (limits_of self.now).connections) }
+        ensures counts { IsTrue result → accepted_of self.now + 1 < 2 ^ 32 }
+    {
+        self.accept_pending && self.accepted < self.limits.connections
+    }
+
+    /// Accepts the next connection, if one waits and gets a slot. Returns whether to try another one.
+    #[tactic(auto, using(crate::proofs::PlacesLemmas::accepting_one))]
+    fn accept_next(&mut self, now: u64) -> Result<bool, AcceptError>
+        ensures more { accepted_of self.old ≤ accepted_of self.new }
+        ensures few { accepted_of self.old ≤ (limits_of self.old).connections
+            → accepted_of self.new ≤ (limits_of self.old).connections }
+        ensures limits { limits_of self.new ≡ limits_of self.old }
+        ensures room { room_of self.new ≡ room_of self.old }
+        ensures ended { ended_of self.old ≤ ended_of self.new }
+        ensures last { IfErr result IsLasting }
+        ensures quiet { self.old.accept_pending ≡ false → self.new ≡ self.old }
+        ensures full { (limits_of self.old).connections ≤ accepted_of self.old → self.new ≡ self.old }
+        ensures waits { HasNoPlace now self.old → self.new ≡ self.old }
+        ensures busy { KeepsBusy now self.old self.new }
+        ensures spared { self.old.out_of_descriptors ≡ false → length (places_of self.old) < room_of self.old → KeepsAll self.old self.new }
+        ensures fed { IfOk result (λ again. again ≡ true → self.old.out_of_descriptors ≡ false → self.new.out_of_descriptors ≡ false) }
+        ensures places { length (places_of self.new) ≤ length (places_of self.old) + (accepted_of self.new - accepted_of self.old) }
+        ensures newcomers { StayOrStart now self.old self.new }
+        ensures numbers { next_of self.new ≤ next_of self.old + (accepted_of self.new - accepted_of self.old) }
+    {
+        if !self.is_awaited() || !self.has_place(now) {
+            return Ok(false);
+        }
+        match self.listener.accept() {
+            Ok((stream, _)) => {
+                self.welcome(stream, now)?;
+                Ok(true)
+            }
+            Err(error) => self.may_try_again(error, now),
+        }
+    }
+
+    /// Returns whether there is a slot for another connection. Where none is free, an open connection may be closed for it.
+    fn has_place(&mut self, now: u64) -> bool
+        ensures free { length (places_of self.old) < room_of self.old → (result ≡ true) × (self.new ≡ self.old) }
+        ensures made { result ≡ true → length (places_of self.new) < room_of self.new }
+        ensures one { room_of self.old ≤ length (places_of self.old) → result ≡ true
+            → GivesPlace now (limits_of self.old).patience (places_of self.old) (places_of self.new) }
+        ensures no { result ≡ false → (self.new ≡ self.old) × HasNoPlace now self.old }
+        ensures waits { HasNoPlace now self.old → result ≡ false }
+        ensures starved { self.new.out_of_descriptors ≡ self.old.out_of_descriptors }
+        ensures same { NoneChanges self.old self.new }
+        ensures fewer { length (places_of self.new) ≤ length (places_of self.old) }
+        ensures nobody { NobodyComes self.old self.new }
+        ensures busy { KeepsBusy now self.old self.new }
+        ensures next { next_of self.new ≡ next_of self.old }
+    {
+        self.open_connections.has_place() || self.displace(now)
+    }
+
+    /// Closes the connection that yields its slot at moment `now`, and returns whether there was one.
+    fn displace(&mut self, now: u64) -> bool
+        requires { (room_of self.old ≤ length (places_of self.old)) ⊎ (self.old.out_of_descriptors ≡ true) }
+        ensures one { room_of self.old ≡ 1 → result ≡ false }
+        ensures no { result ≡ false → (self.new ≡ self.old) × NobodyYields now self.old }
+        ensures waits { NobodyYields now self.old → result ≡ false }
+        ensures taken { result ≡ true → length (places_of self.new) + 1 ≡ length (places_of self.old) }
+        ensures starved { self.new.out_of_descriptors ≡ self.old.out_of_descriptors }
+        ensures same { NoneChanges self.old self.new }
+        ensures fewer { length (places_of self.new) ≤ length (places_of self.old) }
+        ensures yes { result ≡ true → GivesPlace now self.old.limits.patience (places_of self.old)
+            (places_of self.new) }
+        ensures nobody { NobodyComes self.old self.new }
+        ensures busy { KeepsBusy now self.old self.new }
+        ensures next { next_of self.new ≡ next_of self.old }
+    {
+        match self.open_connections.yields(now, self.limits.patience) {
+            Some(number) => {
+                self.open_connections.close(number);
+                true
+            }
+            None => false,
+        }
+    }
+
+    /// Asks the system whether a connection waits in the listen backlog. Until the next wait reports one, none is closed for it.
+    fn ask(&mut self) -> Result<(), AcceptError>
+        ensures err { IfErr result IsOfAsking }
+        ensures asked { self.new.accept_pending ≡ false }
+        ensures kept { self.new.open_connections ≡ self.old.open_connections }
+        ensures starved { self.new.out_of_descriptors ≡ self.old.out_of_descriptors }
+        ensures barred { self.new.is_barred ≡ self.old.is_barred }
+        ensures nobody { NobodyComes self.old self.new }
+    {
+        self.accept_pending = false;
+        let registry = self.poll.registry();
+        registry
+            .reregister(&mut self.listener, LISTENER, Interest::READABLE)
+            .map_err(AcceptError::Ask)
+    }
+
+    /// Adds the connection of `stream`, which was accepted at moment `now`.
+    fn welcome(&mut self, stream: TcpStream, now: u64) -> Result<(), AcceptError>
+        requires { length (places_of self.old) < room_of self.old }
+        ensures others { OthersStay (next_of self.old) (places_of self.old)
+            (places_of self.new) }
+        ensures accepted { accepted_of self.old + 1 < 2 ^ 32 → accepted_of self.new ≡ accepted_of self.old + 1 }
+        ensures limits { limits_of self.new ≡ limits_of self.old }
+        ensures room { room_of self.new ≡ room_of self.old }
+        ensures ended { ended_of self.old ≤ ended_of self.new }
+        ensures asks { room_of self.new ≤ length (places_of self.new) → self.new.accept_pending ≡ false }
+        ensures busy { KeepsBusy now self.old self.new }
+        ensures next { next_of self.new ≤ next_of self.old + 1 }
+        ensures err { IfErr result IsOfAsking }
+        ensures fed { (self.new.out_of_descriptors ≡ false) × (self.new.is_barred ≡ false) }
+        ensures kept { KeepsAll self.old self.new }
+        ensures more { length (places_of self.new) ≤ length (places_of self.old) + 1 }
+        ensures newcomer { AllStart now self.old self.new }
+        ensures welcomed { HasStartedAt (next_of self.old) now (places_of self.new)
+            ⊎ (ended_of self.old + 1 < 2 ^ 32 → ended_of self.new ≡ ended_of self.old + 1) }
+    {
+        self.accepted = self.accepted.saturating_add(1);
+        self.is_barred = false;
+        self.open_connections.add(&self.poll, stream, now);
+        if self.out_of_descriptors || !self.open_connections.has_place() {
+            self.out_of_descriptors = false;
+            self.ask()?;
+        }
+        Ok(())
+    }
+
+    /// Handles the `error` of an accept at moment `now`, and returns whether to try again at once. That is so where the system had no room,
+    /// and an open connection was closed to make some. Otherwise the next wait reports a connection that still waits, or it is tried
+    /// again within a second. One that the system bars is tried again after the turns of the others.
+    fn may_try_again(&mut self, error: io::Error, now: u64) -> Result<bool, AcceptError>
+        ensures again { IfOk result (λ again. again ≡ true → HasNoRoom error
+            × GivesPlace now self.old.limits.patience (places_of self.old) (places_of self.new)) }
+        ensures kept { IfOk result (λ again. again ≡ false
+            → self.new.open_connections.connections ≡ self.old.open_connections.connections) }
+        // No connection is closed when the system has no room for the first time.
+        ensures first { IfOk result (λ again. again ≡ true → self.old.out_of_descriptors ≡ true) }
+        ensures same { NoneChanges self.old self.new }
+        ensures fewer { length (places_of self.new) ≤ length (places_of self.old) }
+        ensures passing { OnOk result (IsPassing error) }
+        // Where none waits, none is noted as waiting, as lacking room, or as barred.
+        ensures none_waits { error_kind error ≡ WouldBlock → (result ≡ Ok false)
+            × (self.new.accept_pending ≡ false) × (self.new.out_of_descriptors ≡ false) × (self.new.is_barred ≡ false) }
+        ensures starved { HasNoRoom error → error_kind error ≢ WouldBlock → OnOk result (self.new.out_of_descriptors ≡ true) }
+        ensures barred { IsBarred error → OnOk result (self.new.is_barred ≡ true) }
+        // One that isn't tried again at once is reported by the next wait, or tried again within a second.
+        ensures heard { IfOk result (λ again. again ≡ false → (self.new.accept_pending ≡ false)
+            ⊎ ((self.new.out_of_descriptors ≡ true) ⊎ (self.new.is_barred ≡ true))) }
+        ensures err { OnErr result (self.new.open_connections.connections ≡ self.old.open_connections.connections) }
+        // An error that passes isn't reported. Where the system can't be asked after it, that is reported, and none is noted as waiting.
+        ensures last { IfErr result (λ reported. (IsOfAsking reported × (self.new.accept_pending ≡ false))
+            ⊎ ((reported ≡ Accept error) × ¬ IsPassing error)) }
+        ensures nobody { NobodyComes self.old self.new }
+        ensures busy { KeepsBusy now self.old self.new }
+        ensures next { next_of self.new ≡ next_of self.old }
+    {
+        if error.kind() == ErrorKind::WouldBlock {
+            self.accept_pending = false;
+            self.out_of_descriptors = false;
+            self.is_barred = false;
+            return Ok(false);
+        }
+        match error.raw_os_error().map_or(Refusal::Last, refusal_of) {
+            Refusal::Lost if error.kind() == ErrorKind::PermissionDenied => {
+                self.is_barred = true;
+                Ok(false)
+            }
+            Refusal::Lost => {
+                self.ask()?;
+                Ok(false)
+            }
+            Refusal::NoRoom if self.out_of_descriptors => Ok(self.displace(now)),
+            Refusal::NoRoom => {
+                self.out_of_descriptors = true;
+                self.ask()?;
+                Ok(false)
+            }
+            Refusal::Last => Err(AcceptError::Accept(error)),
+        }
+    }
+
+    /// Gives connection `number` its turn at moment `now`, and closes it where memory is short.
+    #[tactic(auto, using(crate::proofs::PlacesLemmas::nobody_yet, crate::proofs::PlacesLemmas::went_still))]
+    fn turn<A: AnswerLog>(&mut self, number: u64, server: &Server, now: u64, log: &mut A)
+        ensures others { OthersStay number (places_of self.old) (places_of self.new) }
+        ensures nobody { NobodyComes self.old self.new }
+        ensures went { AllWentOn server.now.catalogue now (places_of self.old) (places_of self.new) }
+    {
+        let buffer = &mut self.buffer;
+        let turn = self.open_connections.turn(number, server, buffer, now, log);
+        if self.after(number, turn, now).is_err() {
+            self.open_connections.close(number);
+        }
+    }
+
+    /// Does at moment `now` what the outcome `turn` of a connection's turn asks for. Queues the connection again, starts its drain once all
+    /// answers are written, or closes it. Where memory is short, the caller closes it.
+    fn after(&mut self, number: u64, turn: Turn, now: u64) -> Result<(), Memory>
+        ensures others { OthersStay number (places_of self.old) (places_of self.new) }
+        ensures nobody { NobodyComes self.old self.new }
+        ensures same { NoneChanges self.old self.new }
+        ensures waits { turn ≡ Waits → IsOk result × (self.new ≡ self.old) }
+        ensures goes_on { turn ≡ GoesOn → OnOk result ((self.new.ready.items ≡ self.old.ready.items ++ number ∷ [])
+            × (places_of self.new ≡ places_of self.old)) }
+        ensures ended { turn ≡ Ended → OnOk result ((self.new.ready.items ≡ self.old.ready.items ++ number ∷ [])
+            ⊎ (timed_at number (places_of self.new) ≡ None)) }
+        ensures drains { turn ≡ Ended → OnOk result ((self.new.drains.items ≡ self.old.drains.items ++ drain_of now number ∷ [])
+            ⊎ (timed_at number (places_of self.new) ≡ None)) }
+        ensures failed { turn ≡ Failed → timed_at number (places_of self.new) ≡ None }
+    {
+        match turn {
+            Turn::Waits => {}
+            Turn::GoesOn => self.make_ready(number)?,
+            Turn::Ended => {
+                let ends = now.saturating_add(DRAIN);
+                if self.open_connections.drain(number) {
+                    self.drains.push_back(Drain { ends, number })?;
+                    self.make_ready(number)?;
+                } else {
+                    self.open_connections.close(number);
+                }
+            }
+            Turn::Failed => self.open_connections.close(number),
+        }
+        Ok(())
+    }
+
+    /// Queues connection `number` for its next turn. It keeps its slot.
+    fn make_ready(&mut self, number: u64) -> Result<(), Memory>
+        ensures others { OthersStay number (places_of self.old) (places_of self.new) }
+        ensures nobody { NobodyComes self.old self.new }
+        ensures same { NoneChanges self.old self.new }
+        ensures ready { OnOk result (self.new.ready.items ≡ self.old.ready.items ++ number ∷ []) }
+        ensures noted { IsReadyAt number self.new.open_connections ⊎ (timed_at number (places_of self.new) ≡ None) }
+        ensures kept { places_of self.new ≡ places_of self.old }
+        ensures drains { self.new.drains ≡ self.old.drains }
+    {
+        self.open_connections.note_ready(number);
+        self.ready.push_back(number)?;
+        Ok(())
+    }
+
+    /// Closes the connections whose drain has ended by moment `now`.
+    #[tactic(auto, using(crate::proofs::PlacesLemmas::nobody_yet, crate::proofs::PlacesLemmas::same_on))]
+    fn end_drains(&mut self, now: u64)
+        ensures nobody { NobodyComes self.old self.new }
+        ensures same { NoneChanges self.old self.new }
+        // The first drain that is left hasn't ended yet.
+        ensures over { IfSome (slice_get self.new.drains.items 0) (λ drain. now < drain.ends) }
+    {
+        for _ in 0..self.drains.len() {
+            if !self.end_drain(now) {
+                break;
+            }
+        }
+    }
+
+    /// Closes the connection whose drain ends first, if it has ended by moment `now`. Returns whether it had.
+    fn end_drain(&mut self, now: u64) -> bool
+        ensures nobody { NobodyComes self.old self.new }
+        ensures same { NoneChanges self.old self.new }
+        ensures early { result ≡ false → (self.new ≡ self.old)
+            × IfSome (slice_get self.old.drains.items 0) (λ drain. now < drain.ends) }
+        ensures over { result ≡ true → IsSomeAnd (slice_get self.old.drains.items 0) (λ drain. (drain.ends ≤ now)
+            × (timed_at drain.number (places_of self.new) ≡ None)) }
+        ensures gone { result ≡ true → self.new.drains.items ≡ drop 1 self.old.drains.items }
+    {
+        match self.drains.front().copied() {
+            Some(drain) if drain.ends <= now => {
+                self.drains.pop_front();
+                self.open_connections.close(drain.number);
+                true
+            }
+            _ => false,
+        }
+    }
+}

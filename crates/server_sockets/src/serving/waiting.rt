@@ -1,0 +1,64 @@
+//! How long a server's sockets wait.
+ghost use Rattle.std.specs.Prelude.{◌≡◌, ◌≢◌, ◌+◌, ◌-◌, ◌*◌, ◌<◌, ◌≤◌, ◌⊎◌, [], IfSome, IsSomeAnd, None, false, slice_get, true};
+ghost use Rattle.std.specs.Duration.{as_nanos};
+ghost use Rattle.server_sockets.specs.Places.{IsLookedAt, IsWaitedFor, accepted_of, limits_of, room_of, WakesBy, WakesIn};
+
+use crate::moments::earlier;
+use crate::serving::Serving;
+use std::time::Duration;
+
+/// How many milliseconds pass until a connection that couldn't be accepted is tried again.
+const RETRY: u64 = 1_000;
+
+impl Serving {
+    /// Returns the moment at which a connection in the listen backlog is tried again, if one waits. That is the moment at which an open
+    /// connection may be closed for it. Where no descriptor was left, it is a second from `now` at the latest. Where the system barred it,
+    /// it is a second from `now`.
+    fn looks_at(&self, now: u64) -> Option<u64>
+        ensures starved { (self.now.out_of_descriptors ≡ true) ⊎ (self.now.is_barred ≡ true) → self.now.accept_pending ≡ true
+            → accepted_of self.now < (limits_of self.now).connections → IsSomeAnd result (λ moment. moment ≤ now + 1000) }
+        ensures place { self.now.is_barred ≡ false → self.now.accept_pending ≡ true
+            → accepted_of self.now < (limits_of self.now).connections → room_of self.now ≢ 1 → WakesBy self.now result }
+        ensures idle { self.now.accept_pending ≡ false → result ≡ None }
+        ensures only { IfSome result (IsLookedAt now self.now) }
+    {
+        if !self.is_awaited() {
+            return None;
+        }
+        if self.is_barred {
+            return Some(now.saturating_add(RETRY));
+        }
+        let place = self.open_connections.wakes_at(self.limits.patience);
+        let again = if self.out_of_descriptors {
+            Some(now.saturating_add(RETRY))
+        } else {
+            None
+        };
+        earlier(place, again)
+    }
+
+    /// Returns how long to wait from moment `now` on: until a drain ends, or a connection in the listen backlog is tried again. Returns
+    /// `None` where the wait has no limit.
+    pub(crate) fn timeout(&self, now: u64) -> Option<Duration>
+        ensures ready { self.now.ready.items ≢ [] → IsSomeAnd result (λ wait. as_nanos wait ≡ 0) }
+        ensures drain { IfSome (slice_get self.now.drains.items 0) (λ drain.
+            IsSomeAnd result (λ wait. as_nanos wait ≤ (drain.ends - now) * 1000000)) }
+        ensures starved { (self.now.out_of_descriptors ≡ true) ⊎ (self.now.is_barred ≡ true) → self.now.accept_pending ≡ true
+            → accepted_of self.now < (limits_of self.now).connections → IsSomeAnd result (λ wait. as_nanos wait ≤ 1000 * 1000000) }
+        ensures place { self.now.ready.items ≡ [] → self.now.is_barred ≡ false → self.now.accept_pending ≡ true
+            → accepted_of self.now < (limits_of self.now).connections → room_of self.now ≢ 1 → WakesIn now self.now result }
+        // Where no connection is ready and none is in the backlog, the wait ends with the first drain. Without a drain it has no limit.
+        ensures idle { self.now.ready.items ≡ [] → self.now.drains.items ≡ [] → self.now.accept_pending ≡ false → result ≡ None }
+        ensures just { self.now.ready.items ≡ [] → self.now.accept_pending ≡ false → IfSome (slice_get self.now.drains.items 0) (λ drain.
+            IsSomeAnd result (λ wait. as_nanos wait ≡ (drain.ends - now) * 1000000)) }
+        // The wait ends for no other reason.
+        ensures only { self.now.ready.items ≡ [] → IfSome result (IsWaitedFor now self.now) }
+    {
+        if !self.ready.is_empty() {
+            return Some(Duration::ZERO);
+        }
+        let drain = self.drains.front().map(|drain| drain.ends);
+        let moment = earlier(drain, self.looks_at(now))?;
+        Some(Duration::from_millis(moment.saturating_sub(now)))
+    }
+}

@@ -1,6 +1,0 @@
-pub mod GoingLemmas
-pub mod HeldLemmas
-pub mod PlaceLemmas
-pub mod RefusalLemmas
-pub mod RunLemmas
-pub mod TurnLemmas

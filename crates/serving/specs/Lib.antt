@@ -1,5 +1,0 @@
-pub mod Held
-pub mod Refusals
-pub mod Turns
-pub mod Draining
-pub mod Going

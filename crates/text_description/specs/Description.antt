@@ -1,0 +1,66 @@
+-- What a description says of a file.
+use Rattle.std.specs.Prelude.{◌≡◌, ℕ, Bool, true, false, List, [], slice_get, Option, Some, IfSome, IsSomeAnd, MatchOption, option_map, ⊤}
+use Rattle.std.specs.Option.{unwrap_or}
+use Rattle.std.specs.Cow.{cow_str_bytes}
+use Rattle.std.specs.Str.Lossy.{utf8_lossy}
+use Rattle.cog_reader.specs.declared.outcome.Info.{Info}
+use Rattle.cog_reader.specs.declared.outcome.Outcome.{Outcome}
+use Rattle.cog_reader.specs.declared.outcome.Outcome.TheVariants as outcome
+use Rattle.cog_client.specs.declared.report.Report.{Report}
+use Rattle.cog_client.specs.Client.{ClientState, AreDirectoriesKnown, Knows, report_of, revision_of}
+use Rattle.tiff_dir.specs.declared.level.Level.{Level}
+use Rattle.tiff_dir.specs.Described.{AreLevels}
+use Rattle.text_description.specs.declared.description.Description.{Description}
+use Rattle.text_description.specs.declared.facts.LevelFacts.{LevelFacts}
+use Rattle.text_description.specs.declared.facts.RasterType.{RasterType}
+use Rattle.text_description.specs.declared.facts.RasterType.TheVariants.{Point}
+use Rattle.text_description.specs.Facts.{raster_type_by, AreFactsOf, IsSystemBy}
+use Rattle.text_description.specs.Placement.{corners_by, geo_transform_of, placement_of}
+
+-- the length of the file that the client reads
+abbrev pub length_of : ClientState → Option ℕ
+length_of c = option_map (λ v. v.complete) (revision_of c)
+
+abbrev pub is_point : Option RasterType → Bool
+is_point (Some Point) = true
+is_point _ = false
+
+-- The description has this tag and length, the sides of the first level, what the keys say, and where columns, rows and corners lie.
+pub record Says (tag : List ℕ) (length : Option ℕ) (info : Info) (d : Description) : Type 0 where
+  pub tag_is : cow_str_bytes d.tag ≡ utf8_lossy tag
+  pub length_is : length ≡ Some d.length
+  pub size_is : d.size ≡ slice_get info.sides.items 0
+  pub system_is : IsSystemBy info.geo.keys.items d.coordinate_system
+  pub raster_type_is : d.raster_type ≡ raster_type_by info.geo.keys.items
+  pub placement_is : d.placement ≡ placement_of info (is_point d.raster_type)
+  pub transform_is : d.geo_transform ≡ option_map geo_transform_of d.placement
+  pub corners_are : d.corner_coordinates ≡ corners_by d.placement d.size
+
+-- it is a description of what Info tells
+abbrev pub SaysOf : List ℕ → Option ℕ → Outcome → Description → Type 0
+SaysOf tag length (outcome.Info info) d = Says tag length info d
+SaysOf tag length (outcome.Window window) d = ⊥
+SaysOf tag length (outcome.Fault fault) d = ⊥
+
+-- the description is of what the client's report of Info tells
+abbrev pub Describes : ClientState → Description → Type 0
+Describes c d = IsSomeAnd (report_of c) (λ report. SaysOf report.tag (length_of c) report.outcome d)
+
+-- The client has these levels: once it knows all directories, those of the file, and none before.
+pub record HasLevels (c : ClientState) (levels : Option (List Level)) : Type 0 where
+  pub known : MatchOption levels (¬ AreDirectoriesKnown c) (λ _. AreDirectoriesKnown c)
+  pub of_file : (f : List ℕ) → Knows f c → IfSome levels (AreLevels f)
+
+-- these are the facts of the levels that the client has
+abbrev pub AreLevelsBy : ClientState → List LevelFacts → Type 0
+AreLevelsBy c facts = (levels : Option (List Level)) × HasLevels c levels × AreFactsOf (unwrap_or levels []) facts
+
+-- no report of Info
+abbrev pub IsNoInfo : Outcome → Type 0
+IsNoInfo (outcome.Info info) = ⊥
+IsNoInfo (outcome.Window window) = ⊤
+IsNoInfo (outcome.Fault fault) = ⊤
+
+-- no report of Info stands
+abbrev pub HasNoInfo : ClientState → Type 0
+HasNoInfo c = (report : Report) → report_of c ≡ Some report → IsNoInfo report.outcome

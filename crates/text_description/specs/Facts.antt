@@ -1,0 +1,102 @@
+-- What the levels and the keys of a file say (GeoTIFF 1.1, OGC 19-008, annex A).
+use Rattle.std.specs.Prelude.{◌≡◌, ◌⊎◌, ℕ, ◌-◌, ◌==◌, ◌||◌, Bool, false, if◌then◌else◌, List, [], ◌∷◌, length, take, codes, slice_get, Option, Some, None, find, option_and_then, option_map, IsSome, ⊤}
+use Rattle.std.specs.Option.{option_or}
+use Rattle.std.specs.Cow.{cow_str_bytes}
+use Rattle.std.specs.Str.Lossy.{utf8_lossy}
+use Rattle.geokeys.specs.declared.geo.Key.{Key}
+use Rattle.geokeys.specs.declared.geo.KeyValue.{KeyValue}
+use Rattle.geokeys.specs.declared.geo.KeyValue.TheVariants.{Short, Doubles, Ascii}
+use Rattle.tiff_dir.specs.declared.level.Compression.{Compression}
+use Rattle.tiff_dir.specs.declared.level.Compression.TheVariants.{Plain, Packed}
+use Rattle.tiff_dir.specs.declared.level.Codec.TheVariants.{PackBits}
+use Rattle.tiff_dir.specs.declared.level.Level.{Level}
+use Rattle.text_description.specs.declared.facts.CoordinateSystem.{CoordinateSystem}
+use Rattle.text_description.specs.declared.facts.LevelFacts.{LevelFacts}
+use Rattle.text_description.specs.declared.facts.RasterType.{RasterType}
+use Rattle.text_description.specs.declared.facts.RasterType.TheVariants.{Area, Point}
+
+-- ---- levels
+
+-- GDAL's name of the type of a sample of so many bits
+abbrev pub type_name : ℕ → List ℕ
+type_name bits = if bits == 8 then codes "Byte" else codes "UInt16"
+
+abbrev pub compression_name : Compression → List ℕ
+compression_name Plain = codes "none"
+compression_name (Packed PackBits) = codes "PackBits"
+
+-- The facts are the level's.
+pub record IsFactsOf (level : Level) (facts : LevelFacts) : Type 0 where
+  pub columns : facts.size.0 ≡ level.width
+  pub rows : facts.size.1 ≡ level.length
+  pub tile_columns : facts.block.0 ≡ level.tile_width
+  pub tile_rows : facts.block.1 ≡ level.tile_length
+  pub tiles : facts.tiles ≡ level.offsets.count
+  pub samples : facts.samples ≡ level.samples
+  pub bits : facts.bits ≡ level.bits
+  pub kind : facts.kind.now ≡ type_name level.bits
+  pub compression : facts.compression.now ≡ compression_name level.compression
+
+-- the facts are the levels', one for each, in their order
+abbrev pub AreFactsOf : List Level → List LevelFacts → Type 0
+AreFactsOf [] [] = ⊤
+AreFactsOf (level ∷ levels) (facts ∷ more) = IsFactsOf level facts × AreFactsOf levels more
+AreFactsOf levels facts = ⊥
+
+-- ---- keys
+
+-- the value of the first key of this number
+abbrev pub value_of : ℕ → List Key → Option KeyValue
+value_of id keys = option_map (λ key. key.value) (find (λ key. key.id == id) keys)
+
+abbrev pub number_in : KeyValue → Option ℕ
+number_in (Short n) = Some n
+number_in (Doubles numbers) = None
+number_in (Ascii bytes) = None
+
+-- the number of the key, if it has one
+abbrev pub number_of : ℕ → List Key → Option ℕ
+number_of id keys = option_and_then number_in (value_of id keys)
+
+-- GTRasterTypeGeoKey 1 is an area, 2 a point
+abbrev pub raster_type_of : ℕ → Option RasterType
+raster_type_of n = if n == 1 then Some Area else (if n == 2 then Some Point else None)
+
+abbrev pub raster_type_by : List Key → Option RasterType
+raster_type_by keys = option_and_then raster_type_of (number_of 1025 keys)
+
+-- a bar or a NUL ends a text
+abbrev pub is_end : Option ℕ → Bool
+is_end None = false
+is_end (Some byte) = (byte == 124) || (byte == 0)
+
+-- a text without its end
+abbrev pub without_end : List ℕ → List ℕ
+without_end bytes = if is_end (slice_get bytes (length bytes - 1)) then take (length bytes - 1) bytes else bytes
+
+abbrev pub text_in : KeyValue → Option (List ℕ)
+text_in (Short n) = None
+text_in (Doubles numbers) = None
+text_in (Ascii bytes) = Some (without_end bytes.items)
+
+-- the text of the key, if it has one
+abbrev pub text_of : ℕ → List Key → Option (List ℕ)
+text_of id keys = option_and_then text_in (value_of id keys)
+
+-- 0 is undefined and 32767 user-defined, and neither numbers a system (requirements of ProjectedCRSGeoKey and GeodeticCRSGeoKey)
+abbrev pub numbered : ℕ → Option ℕ
+numbered n = if (n == 0) || (n == 32767) then None else Some n
+
+-- by ProjectedCRSGeoKey, and by GeodeticCRSGeoKey only where that isn't there
+abbrev pub system_number : List Key → Option ℕ
+system_number keys = option_and_then numbered (option_and_then number_in (option_or (value_of 3072 keys) (value_of 2048 keys)))
+
+-- ProjectedCitationGeoKey, else GeodeticCitationGeoKey, and else GTCitationGeoKey
+abbrev pub citation : List Key → Option (List ℕ)
+citation keys = option_or (text_of 3073 keys) (option_or (text_of 2049 keys) (text_of 1026 keys))
+
+-- The number and the text of the coordinate system, of which what isn't UTF-8 is U+FFFD; no system where no key has either.
+abbrev pub IsSystemBy : List Key → Option CoordinateSystem → Type 0
+IsSystemBy keys None = (system_number keys ≡ None) × (citation keys ≡ None)
+IsSystemBy keys (Some system) = (IsSome system.number ⊎ IsSome system.name) × (system.number ≡ system_number keys)
+    × (option_map cow_str_bytes system.name ≡ option_map utf8_lossy (citation keys))

@@ -1,0 +1,141 @@
+//! The description of a file.
+ghost use Rattle.std.specs.Prelude.{◌≡◌, IfOk, IfSome, None, Ok};
+ghost use Rattle.std.specs.Option.{option_map};
+ghost use Rattle.text_description.specs.Description.{Describes, AreLevelsBy, HasNoInfo, is_point};
+ghost use Rattle.text_description.specs.Facts.{AreFactsOf};
+ghost use Rattle.text_description.specs.Placement.{corners_by, geo_transform_of};
+
+use crate::facts::{CoordinateSystem, LevelFacts, RasterType, readable};
+use crate::placement::{Corners, Placement};
+use cog_client::{Client, Memory, Outcome};
+use serde::Serialize;
+use std::alloc::Global;
+use std::borrow::CowStr;
+use tiff_dir::Level;
+
+/// How a description is told.
+#[derive(Clone, Copy, Debug, PartialEq, Eq)]
+pub enum Form {
+    /// In words for people, a line for each fact.
+    Words,
+    /// In JSON for programs.
+    Json,
+}
+
+/// What a file says of itself. In JSON, what gdalinfo says as well has gdalinfo's keys.
+#[derive(Debug, Drop, Serialize)]
+#[serde(rename_all = "camelCase")]
+pub struct Description<'a> {
+    /// The entity tag, with its quotes.
+    pub tag: CowStr<'a>,
+    /// The file's length in bytes.
+    pub length: u64,
+    /// Columns and rows of the first level.
+    #[serde(skip_serializing_if = "Option::is_none")]
+    pub size: Option<(u32, u32)>,
+    /// The levels, the largest first.
+    pub levels: Vec<LevelFacts>,
+    #[serde(skip_serializing_if = "Option::is_none")]
+    pub coordinate_system: Option<CoordinateSystem<'a>>,
+    #[serde(skip_serializing_if = "Option::is_none")]
+    pub raster_type: Option<RasterType>,
+    #[serde(skip)]
+    pub placement: Option<Placement>,
+    #[serde(skip_serializing_if = "Option::is_none")]
+    pub geo_transform: Option<[f64; 6]>,
+    #[serde(skip_serializing_if = "Option::is_none")]
+    pub corner_coordinates: Option<Corners>,
+}
+
+impl<'a> Description<'a> {
+    /// What a client's report of Info says of the file, with what the client knows of its levels; none without such a report.
+    pub fn of(alloc: Global, client: &'a Client) -> Result<Option<Description<'a>>, Memory>
+        ensures described { IfOk result (λ made. IfSome made (Describes client.now)) }
+        ensures levels { IfOk result (λ made. IfSome made (λ d. AreLevelsBy client.now d.levels.items)) }
+        ensures none { result ≡ Ok None → HasNoInfo client.now }
+    {
+        let (Some(report), Some(length)) = (client.report(), client.complete()) else {
+            return Ok(None);
+        };
+        let Outcome::Info(info) = &report.outcome else {
+            return Ok(None);
+        };
+        let raster_type = RasterType::of(info);
+        let placement = Placement::of(info, is_point(raster_type));
+        let size = info.sides.first().copied();
+        Ok(Some(Description {
+            tag: readable(alloc, report.tag.as_bytes())?,
+            length,
+            size,
+            levels: levels_of(alloc, client)?,
+            coordinate_system: CoordinateSystem::of(alloc, info)?,
+            raster_type,
+            placement,
+            geo_transform: geo_transform_of(placement),
+            corner_coordinates: corners_by(placement, size),
+        }))
+    }
+
+    /// The text of a description, which ends with its last line.
+    pub fn text(&self, alloc: Global, form: Form) -> Result<String, Memory> {
+        match form {
+            Form::Words => Ok(format!(in alloc; "{self}")?),
+            Form::Json => {
+                let mut text = json_text(alloc, self)?;
+                text.push('\n')?;
+                Ok(text)
+            }
+        }
+    }
+}
+
+/// Whether a pixel is a point.
+fn is_point(raster_type: Option<RasterType>) -> bool
+    ensures { result ≡ is_point raster_type }
+{
+    matches!(raster_type, Some(RasterType::Point))
+}
+
+/// The numbers of a placement, as GDAL's GetGeoTransform has them.
+fn geo_transform_of(placement: Option<Placement>) -> Option<[f64; 6]>
+    ensures { result ≡ option_map geo_transform_of placement }
+{
+    let placement = placement?;
+    Some(placement.numbers())
+}
+
+/// The corners of an image of this size, where both are known.
+fn corners_by(placement: Option<Placement>, size: Option<(u32, u32)>) -> Option<Corners>
+    ensures { result ≡ corners_by placement size }
+{
+    let placement = placement?;
+    Some(placement.corners(size?))
+}
+
+/// What the levels say that the client knows.
+fn levels_of(alloc: Global, client: &Client) -> Result<Vec<LevelFacts>, Memory>
+    ensures { IfOk result (λ facts. AreLevelsBy client.now facts.items) }
+{
+    match client.levels() {
+        Some(levels) => Ok(facts_of(alloc, levels)?),
+        None => Ok(Vec::new(alloc)),
+    }
+}
+
+/// What the levels say, each in its place.
+#[tactic(auto, using(crate::proofs::LevelLemmas::next_one))]
+fn facts_of(alloc: Global, levels: &[Level]) -> Result<Vec<LevelFacts>, Memory>
+    ensures { IfOk result (λ facts. AreFactsOf levels.now facts.items) }
+{
+    let mut facts = Vec::new(alloc);
+    for level in levels {
+        facts.push(LevelFacts::of(level))?;
+    }
+    Ok(facts)
+}
+
+/// A description in JSON, with lines and indents. A number that JSON doesn't have (NaN, or one without end) is `null`. `Memory` is the
+/// only error: every description can be written.
+fn json_text(alloc: Global, description: &Description<'_>) -> Result<String, Memory> {
+    serde_json::to_string_pretty(alloc, description).map_err(|_| Memory)
+}

@@ -1,0 +1,234 @@
+//! What the levels and the keys of a file say, by what they mean.
+ghost use Rattle.std.specs.Prelude.{◌≡◌, ◌==◌, IfOk, find, option_copied};
+ghost use Rattle.std.specs.Cow.{cow_str_bytes};
+ghost use Rattle.std.specs.Str.Lossy.{utf8_lossy};
+ghost use Rattle.text_description.specs.Facts.{citation, compression_name, number_of, numbered, raster_type_by, raster_type_of, system_number, text_of, type_name, value_of, without_end, IsFactsOf, IsSystemBy};
+
+use cog_client::Info;
+use geokeys::{Key, KeyValue};
+use serde::Serialize;
+use std::alloc::{AllocError, Global};
+use std::borrow::CowStr;
+use tiff_dir::{Codec, Compression, Level};
+
+/// What a level says of its pixels.
+#[derive(Clone, Copy, Debug, PartialEq, Eq, Serialize)]
+pub struct LevelFacts {
+    /// Columns and rows.
+    pub size: (u32, u32),
+    /// Columns and rows of a tile.
+    pub block: (u32, u32),
+    /// How many tiles.
+    pub tiles: u32,
+    /// Samples of a pixel.
+    pub samples: u16,
+    /// Bits of a sample.
+    pub bits: u16,
+    /// GDAL's name of a sample's type.
+    #[serde(rename = "type")]
+    pub kind: &'static str,
+    pub compression: &'static str,
+}
+
+/// What a pixel is (GTRasterTypeGeoKey).
+#[derive(Clone, Copy, Debug, PartialEq, Eq, Serialize)]
+pub enum RasterType {
+    Area,
+    Point,
+}
+
+/// The coordinate system, as far as keys name it.
+#[derive(Debug, Drop, Serialize)]
+pub struct CoordinateSystem<'a> {
+    /// The number of ProjectedCRSGeoKey or GeodeticCRSGeoKey, most of which are EPSG's.
+    #[serde(skip_serializing_if = "Option::is_none")]
+    pub number: Option<u16>,
+    /// The text of a citation.
+    #[serde(skip_serializing_if = "Option::is_none")]
+    pub name: Option<CowStr<'a>>,
+}
+
+/// GTRasterTypeGeoKey (OGC 19-008, section 7.5.2).
+const RASTER_TYPE: u16 = 1025;
+
+/// ProjectedCRSGeoKey.
+const PROJECTED: u16 = 3072;
+
+/// GeodeticCRSGeoKey.
+const GEODETIC: u16 = 2048;
+
+/// The system isn't defined.
+const UNDEFINED: u16 = 0;
+
+/// Other keys define the system.
+const USER_DEFINED: u16 = 32767;
+
+/// ProjectedCitationGeoKey.
+const PROJECTED_CITATION: u16 = 3073;
+
+/// GeodeticCitationGeoKey.
+const GEODETIC_CITATION: u16 = 2049;
+
+/// GTCitationGeoKey.
+const CITATION: u16 = 1026;
+
+impl LevelFacts {
+    /// What a level says: its sides and those of its tiles, how many tiles there are, and its samples.
+    pub fn of(level: &Level) -> LevelFacts
+        ensures { IsFactsOf level.now result }
+    {
+        LevelFacts {
+            size: (level.width, level.length),
+            block: (level.tile_width, level.tile_length),
+            tiles: level.offsets.count,
+            samples: level.samples,
+            bits: level.bits,
+            kind: type_name(level.bits),
+            compression: compression_name(level.compression),
+        }
+    }
+}
+
+/// GDAL's name of the type of a sample of so many bits, 8 or 16.
+fn type_name(bits: u16) -> &'static str
+    ensures { result.now ≡ type_name bits }
+{
+    if bits == 8 { "Byte" } else { "UInt16" }
+}
+
+fn compression_name(compression: Compression) -> &'static str
+    ensures { result.now ≡ compression_name compression }
+{
+    match compression {
+        Compression::Plain => "none",
+        Compression::Packed(Codec::PackBits) => "PackBits",
+    }
+}
+
+/// The first key of this number.
+fn key_of(keys: &[Key], id: u16) -> Option<&Key>
+    ensures { option_copied result ≡ find (λ key. key.id == id) keys.now }
+{
+    keys.iter().find(|key| key.id == id)
+}
+
+/// The value of the first key of this number.
+fn value_of(keys: &[Key], id: u16) -> Option<&KeyValue>
+    ensures { option_copied result ≡ value_of id keys.now }
+{
+    match key_of(keys, id) {
+        Some(key) => Some(&key.value),
+        None => None,
+    }
+}
+
+/// The number of a key that has one.
+fn number_of(keys: &[Key], id: u16) -> Option<u16>
+    ensures { result ≡ number_of id keys.now }
+{
+    match value_of(keys, id) {
+        Some(KeyValue::Short(number)) => Some(*number),
+        _ => None,
+    }
+}
+
+/// A text without the bar or the NUL that ends it.
+fn without_end(bytes: &[u8]) -> &[u8]
+    ensures { result.now ≡ without_end bytes.now }
+{
+    let count = bytes.len().saturating_sub(1);
+    match bytes.get(count) {
+        Some(b'|' | 0) => &bytes[..count],
+        _ => bytes,
+    }
+}
+
+/// The bytes of the text of a key that has one, without its end.
+fn text_of(keys: &[Key], id: u16) -> Option<&[u8]>
+    ensures { option_copied result ≡ text_of id keys.now }
+{
+    match value_of(keys, id) {
+        Some(KeyValue::Ascii(bytes)) => Some(without_end(bytes)),
+        _ => None,
+    }
+}
+
+/// A number of ProjectedCRSGeoKey or GeodeticCRSGeoKey, if it numbers a system.
+fn numbered(number: u16) -> Option<u16>
+    ensures { result ≡ numbered number }
+{
+    match number {
+        UNDEFINED | USER_DEFINED => None,
+        _ => Some(number),
+    }
+}
+
+/// The number of the system: of the projected one, where its key is there.
+fn system_number(keys: &[Key]) -> Option<u16>
+    ensures { result ≡ system_number keys.now }
+{
+    match value_of(keys, PROJECTED).or(value_of(keys, GEODETIC)) {
+        Some(KeyValue::Short(number)) => numbered(*number),
+        _ => None,
+    }
+}
+
+/// The text of the first citation.
+fn citation(keys: &[Key]) -> Option<&[u8]>
+    ensures { option_copied result ≡ citation keys.now }
+{
+    let general = text_of(keys, CITATION);
+    text_of(keys, PROJECTED_CITATION).or(text_of(keys, GEODETIC_CITATION).or(general))
+}
+
+impl RasterType {
+    /// What the file says that a pixel is; of numbers that the standard doesn't have, nothing.
+    pub fn of(info: &Info) -> Option<RasterType>
+        ensures { result ≡ raster_type_by info.now.geo.keys.items }
+    {
+        match number_of(&info.geo.keys, RASTER_TYPE) {
+            Some(number) => RasterType::numbered(number),
+            None => None,
+        }
+    }
+
+    /// The one of this number.
+    fn numbered(number: u16) -> Option<RasterType>
+        ensures { result ≡ raster_type_of number }
+    {
+        match number {
+            1 => Some(RasterType::Area),
+            2 => Some(RasterType::Point),
+            _ => None,
+        }
+    }
+}
+
+impl<'a> CoordinateSystem<'a> {
+    /// The number and the text of the first keys that have them.
+    pub fn of(alloc: Global, info: &'a Info) -> Result<Option<CoordinateSystem<'a>>, AllocError>
+        ensures { IfOk result (IsSystemBy info.now.geo.keys.items) }
+    {
+        let keys = info.geo.keys.as_slice();
+        let number = system_number(keys);
+        let name = match citation(keys) {
+            Some(bytes) => Some(readable(alloc, bytes)?),
+            None => None,
+        };
+        if number.is_none() && name.is_none() {
+            return Ok(None);
+        }
+        Ok(Some(CoordinateSystem { number, name }))
+    }
+}
+
+/// The text of bytes; what isn't UTF-8 in them becomes U+FFFD.
+#[tactic(auto, using(crate::proofs::TextLemmas::stays))]
+pub fn readable(alloc: Global, bytes: &[u8]) -> Result<CowStr<'_>, AllocError>
+    ensures { IfOk result (λ text. cow_str_bytes text ≡ utf8_lossy bytes.now) }
+{
+    match str::from_utf8(bytes) {
+        Ok(text) => Ok(CowStr::Borrowed(text)),
+        Err(_) => Ok(CowStr::Owned(String::from_utf8_lossy(alloc, bytes)?)),
+    }
+}

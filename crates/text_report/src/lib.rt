@@ -1,0 +1,13 @@
+//! Reports as users see them: a window as a picture, Info as lines of text, and faults as sentences. It escapes the control
+//! characters of texts that others wrote as `\u{..}`.
+#![tactic(auto)]
+
+mod escaped_text;
+mod info;
+mod netpbm;
+mod sentences;
+
+pub use escaped_text::EscapedText;
+pub use info::info_text;
+pub use netpbm::{picture, picture_head};
+pub use sentences::FaultSentence;

@@ -1,0 +1,117 @@
+//! Sentences for people: what is wrong with a file.
+use std::fmt;
+use tiff_dir::{FileFault, tags};
+
+/// A fault of a file, as a sentence without its end.
+#[derive(Clone, Copy, Debug, PartialEq, Eq)]
+pub struct FaultSentence(pub FileFault);
+
+/// A field of a directory by its tag, with its name where it has one here (TIFF 6.0, section 8; GeoTIFF 1.1).
+#[derive(Clone, Copy)]
+struct FieldName(u16);
+
+impl fmt::Display for FieldName {
+    fn fmt<W: fmt::Write>(&self, f: &mut fmt::Formatter<W>) -> fmt::Result {
+        let tag = self.0;
+        let name = match tag {
+            tags::NEW_SUBFILE_TYPE => "NewSubfileType",
+            tags::IMAGE_WIDTH => "ImageWidth",
+            tags::IMAGE_LENGTH => "ImageLength",
+            tags::BITS_PER_SAMPLE => "BitsPerSample",
+            tags::COMPRESSION => "Compression",
+            tags::PHOTOMETRIC_INTERPRETATION => "PhotometricInterpretation",
+            tags::SAMPLES_PER_PIXEL => "SamplesPerPixel",
+            tags::PLANAR_CONFIGURATION => "PlanarConfiguration",
+            tags::TILE_WIDTH => "TileWidth",
+            tags::TILE_LENGTH => "TileLength",
+            tags::TILE_OFFSETS => "TileOffsets",
+            tags::TILE_BYTE_COUNTS => "TileByteCounts",
+            tags::SAMPLE_FORMAT => "SampleFormat",
+            tags::MODEL_PIXEL_SCALE => "ModelPixelScale",
+            tags::MODEL_TIEPOINT => "ModelTiepoint",
+            tags::MODEL_TRANSFORMATION => "ModelTransformation",
+            tags::GEO_KEY_DIRECTORY => "GeoKeyDirectory",
+            tags::GEO_DOUBLE_PARAMS => "GeoDoubleParams",
+            tags::GEO_ASCII_PARAMS => "GeoAsciiParams",
+            _ => "the field",
+        };
+        write!(f, "{name} ({tag})")
+    }
+}
+
+/// What is read of a field whose value isn't.
+fn taken(tag: u16) -> &'static str {
+    match tag {
+        tags::BITS_PER_SAMPLE => "only 8 or 16 bits are read, the same for all samples",
+        tags::COMPRESSION => "only none (1) and PackBits (32773) are read",
+        tags::PHOTOMETRIC_INTERPRETATION => "only grey, black being 0 (1), and RGB (2) are read",
+        tags::SAMPLES_PER_PIXEL => "only one sample that is grey, or three that are RGB, are read",
+        tags::PLANAR_CONFIGURATION => "only samples side by side (1) are read",
+        tags::SAMPLE_FORMAT => "only samples without a sign (1) are read",
+        _ => "such a value isn't read",
+    }
+}
+
+/// What is missing without a field.
+fn needed(tag: u16) -> &'static str {
+    match tag {
+        tags::TILE_WIDTH | tags::TILE_LENGTH => "only tiles are read, no strips",
+        _ => "it is needed",
+    }
+}
+
+impl fmt::Display for FaultSentence {
+    fn fmt<W: fmt::Write>(&self, f: &mut fmt::Formatter<W>) -> fmt::Result {
+        match self.0 {
+            FileFault::Missing(tag) => {
+                return write!(f, "a level has no {}: {}", FieldName(tag), needed(tag));
+            }
+            FileFault::FieldType(tag) => {
+                return write!(
+                    f,
+                    "{} has another type or count than it is to have",
+                    FieldName(tag)
+                );
+            }
+            FileFault::Unsupported(tag) => {
+                return write!(f, "{} has another value: {}", FieldName(tag), taken(tag));
+            }
+            _ => {}
+        }
+        f.write_str(plain_sentence(self.0))
+    }
+}
+
+/// The sentence of a fault that is about no field.
+fn plain_sentence(fault: FileFault) -> &'static str {
+    match fault {
+        FileFault::Header => "the file is no classic TIFF: it begins otherwise, as BigTIFF does",
+        FileFault::PastEnd => "bytes that are needed lie behind the file's end",
+        FileFault::DirPlace => "a directory's offset is odd or below 8",
+        FileFault::DirCount => "a directory has no entries, or more than 256",
+        FileFault::TagOrder => "the tags of a directory don't ascend",
+        FileFault::TooManyDirs => "there are more than 16 directories",
+        FileFault::LevelShape => {
+            "a side is 0, the first image is a reduced one, or a level isn't smaller than the one before"
+        }
+        FileFault::TileArray => {
+            "the array of tiles has not as many values as there are tiles, or more than 65536"
+        }
+        FileFault::TileSize => "a tile's side, plain size or byte count is wrong",
+        FileFault::Packet => {
+            "the packed bytes of a tile are no packets that fill it exactly, row by row"
+        }
+        FileFault::Outside => {
+            "the window is empty or passes its level, there is no such level, or 0 columns are asked for"
+        }
+        FileFault::TooLarge => {
+            "the window has more than 4194304 samples, or a geo field more than 65536 bytes"
+        }
+        FileFault::KeyHead => "the geo keys' version, revision or length is wrong",
+        FileFault::KeyOrder => "the geo keys don't ascend",
+        FileFault::KeyPlace => "a geo key's values aren't where it says",
+        FileFault::Missing(_) | FileFault::FieldType(_) | FileFault::Unsupported(_) => {
+            "a field isn't as it is to be"
+        }
+    }
+}

@@ -1,0 +1,4 @@
+//! Tests of the texts of reports.
+mod descriptions;
+mod sentences;
+mod texts;

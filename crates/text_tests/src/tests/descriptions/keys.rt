@@ -1,0 +1,103 @@
+//! What keys say of the coordinate system and of pixels (GeoTIFF 1.1, OGC 19-008, annex A).
+use super::places::info;
+use assertion_support::expect_eq;
+use cog_client::Info;
+use geokeys::{Key, KeyValue};
+use std::alloc::{AllocError, Global};
+use std::test::Fail;
+use text_description::{CoordinateSystem, RasterType};
+
+/// What Info says of an image with these keys.
+fn info_of(alloc: Global, keys: Vec<Key>) -> Result<Info, Fail> {
+    let mut info = info(alloc, &[], &[], &[])?;
+    info.geo.keys = keys;
+    Ok(info)
+}
+
+/// Keys that have numbers.
+fn numbers(alloc: Global, keys: &[(u16, u16)]) -> Result<Vec<Key>, AllocError> {
+    let mut made = Vec::new(alloc);
+    for (id, number) in keys {
+        made.push(Key {
+            id: *id,
+            value: KeyValue::Short(*number),
+        })?;
+    }
+    Ok(made)
+}
+
+/// Keys that have texts.
+fn texts(alloc: Global, keys: &[(u16, &[u8])]) -> Result<Vec<Key>, AllocError> {
+    let mut made = Vec::new(alloc);
+    for (id, text) in keys {
+        made.push(Key {
+            id: *id,
+            value: KeyValue::Ascii(Vec::from_slice(alloc, text)?),
+        })?;
+    }
+    Ok(made)
+}
+
+/// A projected system is told before the geodetic one that it stands on, which isn't told in its place. The numbers 0 (undefined) and
+/// 32767 (user-defined) are none.
+#[test]
+fn tells_the_number_of_a_system(rt: HostRuntime) -> Result<(), Fail> {
+    let alloc = rt.alloc();
+    for (keys, want) in [
+        ([(2048, 4326), (3072, 32633)].as_slice(), Some(32633)),
+        (&[(1024, 2), (2048, 4326)], Some(4326)),
+        (&[(1024, 2)], None),
+        (&[(2048, 0)], None),
+        (&[(2048, 32767)], None),
+        (&[(2048, 4326), (3072, 0)], None),
+        (&[(2048, 4326), (3072, 32767)], None),
+    ] {
+        let info = info_of(alloc, numbers(alloc, keys)?)?;
+        let number = match CoordinateSystem::of(alloc, &info)? {
+            Some(system) => system.number,
+            None => None,
+        };
+        expect_eq!(rt; number, want);
+    }
+    Ok(())
+}
+
+/// Keys with texts.
+type Texts = &'static [(u16, &'static [u8])];
+
+/// A text ends in a bar or in NUL. One that isn't UTF-8 is told as far as it is.
+#[test]
+fn tells_the_text_of_a_system(rt: HostRuntime) -> Result<(), Fail> {
+    let alloc = rt.alloc();
+    let rows: [(Texts, &str); 4] = [
+        (&[(1026, b"all"), (2049, b"WGS 84|")], "WGS 84"),
+        (&[(2049, b"WGS 84|"), (3073, b"UTM 33\0")], "UTM 33"),
+        (&[(1026, b"A|B|")], "A|B"),
+        (&[(1026, b"W\xffS")], "W\u{fffd}S"),
+    ];
+    for (keys, want) in rows {
+        let info = info_of(alloc, texts(alloc, keys)?)?;
+        let Some(system) = CoordinateSystem::of(alloc, &info)? else {
+            return Err(Fail::new("no system"));
+        };
+        assert_eq!(rt; system.name.as_deref(), Some(want));
+        expect_eq!(rt; system.number, None);
+    }
+    Ok(())
+}
+
+#[test]
+fn tells_what_a_pixel_is(rt: HostRuntime) -> Result<(), Fail> {
+    let alloc = rt.alloc();
+    for (number, want) in [
+        (1, Some(RasterType::Area)),
+        (2, Some(RasterType::Point)),
+        (3, None),
+    ] {
+        let info = info_of(alloc, numbers(alloc, &[(1025, number)])?)?;
+        expect_eq!(rt; RasterType::of(&info), want);
+    }
+    let info = info_of(alloc, numbers(alloc, &[(1024, 2)])?)?;
+    expect_eq!(rt; RasterType::of(&info), None);
+    Ok(())
+}

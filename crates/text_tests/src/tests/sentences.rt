@@ -1,0 +1,99 @@
+//! Faults of a file, and reasons why an answer isn't used, as sentences.
+use cog_client::Why;
+use read_progress::WhySentence;
+use std::test::Fail;
+use text_report::FaultSentence;
+use tiff_dir::FileFault;
+
+/// Faults about no field, and what is told of them.
+#[rattlefmt::skip]
+const FAULTS: [(FileFault, &str); 15] = [
+    (FileFault::Header, "the file is no classic TIFF: it begins otherwise, as BigTIFF does"),
+    (FileFault::PastEnd, "bytes that are needed lie behind the file's end"),
+    (FileFault::DirPlace, "a directory's offset is odd or below 8"),
+    (FileFault::DirCount, "a directory has no entries, or more than 256"),
+    (FileFault::TagOrder, "the tags of a directory don't ascend"),
+    (FileFault::TooManyDirs, "there are more than 16 directories"),
+    (FileFault::LevelShape, "a side is 0, the first image is a reduced one, or a level isn't smaller than the one before"),
+    (FileFault::TileArray, "the array of tiles has not as many values as there are tiles, or more than 65536"),
+    (FileFault::TileSize, "a tile's side, plain size or byte count is wrong"),
+    (FileFault::Packet, "the packed bytes of a tile are no packets that fill it exactly, row by row"),
+    (FileFault::Outside, "the window is empty or passes its level, there is no such level, or 0 columns are asked for"),
+    (FileFault::TooLarge, "the window has more than 4194304 samples, or a geo field more than 65536 bytes"),
+    (FileFault::KeyHead, "the geo keys' version, revision or length is wrong"),
+    (FileFault::KeyOrder, "the geo keys don't ascend"),
+    (FileFault::KeyPlace, "a geo key's values aren't where it says"),
+];
+
+/// Faults about each field, and about one that has no name here.
+#[rattlefmt::skip]
+const FIELDS: [(FileFault, &str); 22] = [
+    (FileFault::FieldType(254), "NewSubfileType (254) has another type or count than it is to have"),
+    (FileFault::Missing(256), "a level has no ImageWidth (256): it is needed"),
+    (FileFault::Missing(257), "a level has no ImageLength (257): it is needed"),
+    (FileFault::Unsupported(258), "BitsPerSample (258) has another value: only 8 or 16 bits are read, the same for all samples"),
+    (FileFault::Unsupported(259), "Compression (259) has another value: only none (1) and PackBits (32773) are read"),
+    (FileFault::Missing(262), "a level has no PhotometricInterpretation (262): it is needed"),
+    (FileFault::Unsupported(262), "PhotometricInterpretation (262) has another value: only grey, black being 0 (1), and RGB (2) are read"),
+    (FileFault::Unsupported(277), "SamplesPerPixel (277) has another value: only one sample that is grey, or three that are RGB, are read"),
+    (FileFault::Unsupported(284), "PlanarConfiguration (284) has another value: only samples side by side (1) are read"),
+    (FileFault::Missing(322), "a level has no TileWidth (322): only tiles are read, no strips"),
+    (FileFault::Missing(323), "a level has no TileLength (323): only tiles are read, no strips"),
+    (FileFault::Missing(324), "a level has no TileOffsets (324): it is needed"),
+    (FileFault::FieldType(325), "TileByteCounts (325) has another type or count than it is to have"),
+    (FileFault::Unsupported(339), "SampleFormat (339) has another value: only samples without a sign (1) are read"),
+    (FileFault::FieldType(33550), "ModelPixelScale (33550) has another type or count than it is to have"),
+    (FileFault::FieldType(33922), "ModelTiepoint (33922) has another type or count than it is to have"),
+    (FileFault::FieldType(34264), "ModelTransformation (34264) has another type or count than it is to have"),
+    (FileFault::FieldType(34735), "GeoKeyDirectory (34735) has another type or count than it is to have"),
+    (FileFault::FieldType(34736), "GeoDoubleParams (34736) has another type or count than it is to have"),
+    (FileFault::FieldType(34737), "GeoAsciiParams (34737) has another type or count than it is to have"),
+    (FileFault::FieldType(700), "the field (700) has another type or count than it is to have"),
+    (FileFault::Unsupported(700), "the field (700) has another value: such a value isn't read"),
+];
+
+/// Answers that aren't used, and what is told of them.
+#[rattlefmt::skip]
+const REASONS: [(Why, &str); 19] = [
+    (Why::Status(301), "301: the file is elsewhere, and redirections aren't followed"),
+    (Why::Status(400), "400: the server doesn't take the request"),
+    (Why::Status(401), "401: the server doesn't give the file"),
+    (Why::Status(403), "403: the server doesn't give the file"),
+    (Why::Status(404), "404: the server has no such file"),
+    (Why::Status(410), "410: the server has no such file"),
+    (Why::Status(416), "416: the file has no such bytes"),
+    (Why::Status(429), "429: the server is busy"),
+    (Why::Status(503), "503: the server is busy"),
+    (Why::Status(500), "500: the server can't answer"),
+    (Why::Status(204), "204: neither the file nor a part of it"),
+    (Why::Cut, "the answer ends inside its head"),
+    (Why::Head, "no head of HTTP/1.1 in 4096 bytes, or more than 32 fields"),
+    (Why::NoTag, "no ETag, several, or a malformed one: the server doesn't say which content it is"),
+    (Why::WeakTag, "weak tag: the server doesn't say that the bytes are the same"),
+    (Why::TagTooLong, "the ETag is too long"),
+    (Why::NoRange, "206 without a Content-Range that is read"),
+    (Why::NoLength, "no Content-Length, or another than the part's"),
+    (Why::Coding, "the answer is coded: by a transfer coding, or compressed"),
+];
+
+#[test]
+fn tells_faults_as_sentences(rt: HostRuntime) -> Result<(), Fail> {
+    for (fault, want) in FAULTS {
+        let told = format!(in rt.alloc(); "{}", FaultSentence(fault))?;
+        assert_eq!(rt; told.as_str(), want);
+    }
+    for (fault, want) in FIELDS {
+        let told = format!(in rt.alloc(); "{}", FaultSentence(fault))?;
+        assert_eq!(rt; told.as_str(), want);
+    }
+    Ok(())
+}
+
+#[test]
+fn tells_reasons_as_sentences(rt: HostRuntime) -> Result<(), Fail> {
+    for (why, want) in REASONS {
+        let told = format!(in rt.alloc(); "{}", WhySentence(why))?;
+        assert_eq!(rt; told.as_str(), want);
+    }
+    Ok(())
+}

@@ -1,5 +1,0 @@
-use Rattle.tiff_dir.proofs.WindowLemmas.{window_once}
-use Rattle.tiff_dir.proofs.laws.one_window.Goals as goal
-
-pub returns : goal.returns
-returns c = record { window = window_once }

@@ -1,4 +1,0 @@
-pub mod Mosaic
-pub mod Paint
-pub mod Samples
-pub mod Unpacked

@@ -1,0 +1,259 @@
+//! Tiles that were unpacked, kept from one window to the next.
+ghost use Rattle.std.specs.Prelude.{◌≡◌, ◌*◌, ◌≤◌, ℕ, List, IfOk, IfSome, IsSome, OnOk, slice_get, Some, length};
+ghost use Rattle.std.specs.List.{All};
+ghost use Rattle.extents.specs.Extent.{bytes_in};
+ghost use Rattle.tiff_dir.specs.Window.{PacksBy};
+ghost use Rattle.std.specs.NonZero.{non_zero_usize_get};
+ghost use Rattle.tile_plan.specs.TileCache.{tiles_in, IsStore, IsTileOf};
+
+use extents::Memory;
+use lru::LruCache;
+use std::alloc::Global;
+use std::marker::Model;
+use std::mem;
+use std::num::NonZeroUsize;
+use tiff_dir::Codec;
+
+/// What `len` packed bytes stand for by a codec, in rows of `row` bytes each.
+#[derive(Drop)]
+pub struct Tile {
+    pub codec: Codec,
+    pub len: usize,
+    pub row: usize,
+    pub plain: Vec<u8>,
+}
+
+impl Tile {
+    ghost use Rattle.std.specs.Prelude.{◌≡◌};
+    ghost use Rattle.std.specs.Option.{option_copied};
+    ghost use Rattle.tile_plan.specs.TileCache.{plain_of};
+
+    /// Returns what it stands for by the codec, where its packed bytes are so many, and it has `size` bytes in rows of `row`.
+    fn plain_of(&self, codec: Codec, len: usize, row: usize, size: usize) -> Option<&[u8]>
+        ensures { option_copied result ≡ plain_of codec len row size self.now }
+    {
+        if self.codec != codec || self.len != len || self.row != row || self.plain.len() != size {
+            return None;
+        }
+        Some(&self.plain)
+    }
+}
+
+/// Room for a tile of so many bytes: that of the tile that was used longest ago, where no more may be kept, and else new.
+fn room_for(tiles: &mut LruCache<u32, Tile>, alloc: Global, size: usize) -> Result<Vec<u8>, Memory>
+    ensures size { IfOk result (λ room. length room.items ≡ size) }
+    ensures of { (f : List ℕ) → All (IsTileOf f) tiles.old.entries → All (IsTileOf f) tiles.new.entries }
+    ensures store { (most each : ℕ) → IsStore most each tiles.old → IsStore most each tiles.new }
+{
+    if tiles.len() >= tiles.cap().get() {
+        if let Some((_, tile)) = tiles.pop_lru() {
+            if tile.plain.len() == size {
+                return Ok(tile.plain);
+            }
+        }
+    }
+    Ok(vec![in alloc; 0u8; size]?)
+}
+
+/// Has a store for so many tiles of `size` bytes, in the place of one for those of another size, which `of` tells.
+/// After a refusal, what was there stays.
+fn fit(
+    tiles: &mut Option<LruCache<u32, Tile>>,
+    of: &mut usize,
+    alloc: Global,
+    size: usize,
+    count: NonZeroUsize,
+) -> Result<(), Memory>
+    ensures store { (most : ℕ) → non_zero_usize_get count * size ≤ most → IfSome tiles.old (IsStore most of.old)
+        → IfSome tiles.new (IsStore most of.new) }
+    ensures fits { OnOk result ((of.new ≡ size) × IsSome tiles.new) }
+    ensures of { (f : List ℕ) → All (IsTileOf f) (tiles_in tiles.old) → All (IsTileOf f) (tiles_in tiles.new) }
+{
+    if *of == size && tiles.is_some() {
+        return Ok(());
+    }
+    *tiles = Some(LruCache::sparse(alloc, count)?);
+    *of = size;
+    Ok(())
+}
+
+/// Puts a tile in front of others. Its room is kept with it, and other room of that size stands in its place.
+fn put(
+    tiles: &mut LruCache<u32, Tile>,
+    alloc: Global,
+    codec: Codec,
+    first: u32,
+    len: usize,
+    row: usize,
+    plain: &mut Vec<u8>,
+) -> Result<(), Memory>
+    ensures front { OnOk result (slice_get tiles.new.entries 0
+        ≡ Some (first, record { codec = codec; len = len; row = row; plain = plain.old })) }
+    ensures of { (f : List ℕ) → All (IsTileOf f) tiles.old.entries
+        → PacksBy codec row (bytes_in f (record { first = first; len = len })) plain.old.items
+        → All (IsTileOf f) tiles.new.entries }
+    ensures store { (most : ℕ) → IsStore most (length plain.old.items) tiles.old → IsStore most (length plain.old.items) tiles.new }
+    ensures size { length plain.new.items ≡ length plain.old.items }
+{
+    let room = room_for(tiles, alloc, plain.len())?;
+    let tile = Tile {
+        codec,
+        len,
+        row,
+        plain: mem::replace(plain, room),
+    };
+    tiles.put(first, tile)?;
+    Ok(())
+}
+
+/// Tiles of one file that were unpacked, by where their packed bytes begin in it: those that were used last, as many as have room. Beside
+/// them it keeps the room for one tile of the window before, for the next window.
+pub struct TileCache {
+    alloc: Global,
+    most: usize,
+    size: usize,
+    tiles: Option<LruCache<u32, Tile>>,
+    room: Vec<u8>,
+}
+
+// Written out, it is one call wherever these are let go; derived, each such place would be proved field by field.
+impl Drop for TileCache {
+    fn drop(self) {
+        let TileCache {
+            alloc: _,
+            most: _,
+            size: _,
+            tiles: _,
+            room: _,
+        } = self;
+    }
+}
+
+impl Model for TileCache {
+    ghost use Rattle.std.specs.Prelude.{IfSome};
+    ghost use Rattle.tile_plan.specs.TileCache.{tiles_in, IsStore, KeptTiles};
+
+    ghost Value = { KeptTiles };
+
+    ghost view = { λ u. record { most = u.most; tiles = tiles_in u.tiles } };
+
+    ghost invariant = { λ u. IfSome u.tiles (IsStore u.most u.size) };
+}
+
+#[tactic(auto, unfolding(crate::specs::TileCache::AreTilesOf))]
+impl TileCache {
+    ghost use Rattle.std.specs.Prelude.{◌≡◌, ◌<◌, ◌≤◌, ℕ, List, [], Some, nat_eq, slice_get, IfOk, IfSome, OnOk, length};
+    ghost use Rattle.std.specs.Option.{option_copied};
+    ghost use Rattle.lru.specs.LruCache.{promoted};
+    ghost use Rattle.extents.specs.Extent.{bytes_in};
+    ghost use Rattle.tiff_dir.specs.Window.{PacksBy};
+    ghost use Rattle.tile_plan.specs.TileCache.{size_of_tiles, plain_at, AreTilesOf};
+
+    /// None yet, of at most so many bytes in all. It takes no memory.
+    pub fn new(alloc: Global, most: usize) -> TileCache
+        ensures none { result ≡ record { most = most; tiles = [] } }
+        ensures of { (f : List ℕ) → AreTilesOf f result }
+    {
+        TileCache {
+            alloc,
+            most,
+            size: 0,
+            tiles: None,
+            room: Vec::new(alloc),
+        }
+    }
+
+    /// The tiles that are kept have no more bytes together than they may. It does nothing: its contract is the law.
+    pub fn no_more_is_kept(&self)
+        ensures { size_of_tiles self.now.tiles ≤ self.now.most }
+    {
+        if let Some(tiles) = &self.tiles {
+            // The length is read for its bound alone.
+            let _len = tiles.len();
+        }
+    }
+
+    /// Room for a tile of so many bytes: that of the window before, where it is as long, and else new.
+    pub fn take_room(&mut self, size: usize) -> Result<Vec<u8>, Memory>
+        ensures size { IfOk result (λ room. length room.items ≡ size) }
+        ensures same { self.new ≡ self.old }
+    {
+        let room = mem::replace(&mut self.room, Vec::new(self.alloc));
+        if room.len() == size {
+            return Ok(room);
+        }
+        drop(room);
+        Ok(vec![in self.alloc; 0u8; size]?)
+    }
+
+    /// Has this room for the next window.
+    pub fn give_room(&mut self, room: Vec<u8>)
+        ensures { self.new ≡ self.old }
+    {
+        self.room = room;
+    }
+
+    /// Notes that the tile at this place is used: where it is kept, it goes to the front.
+    pub fn promote(&mut self, first: u32)
+        ensures tiles { self.new.tiles ≡ promoted (nat_eq first) self.old.tiles }
+        ensures of { (f : List ℕ) → AreTilesOf f self.old → AreTilesOf f self.new }
+        ensures most { self.new.most ≡ self.old.most }
+    {
+        if let Some(tiles) = &mut self.tiles {
+            tiles.promote(&first);
+        }
+    }
+
+    /// Returns what the packed bytes of the tile at this place stand for by the codec, where it is kept. They are so many, and stand for
+    /// `size` bytes in rows of `row`.
+    pub fn find(
+        &self,
+        codec: Codec,
+        first: u32,
+        len: usize,
+        row: usize,
+        size: usize,
+    ) -> Option<&[u8]>
+        ensures found { option_copied result ≡ plain_at codec first len row size self.now }
+        ensures size { IfSome result (λ plain. length plain.now ≡ size) }
+        ensures stands { (f : List ℕ) → AreTilesOf f self.now
+            → IfSome result (λ plain. PacksBy codec row (bytes_in f (record { first = first; len = len })) plain.now) }
+    {
+        let tiles = self.tiles.as_ref()?;
+        let tile = tiles.peek(&first)?;
+        tile.plain_of(codec, len, row, size)
+    }
+
+    /// Keeps what the packed bytes of the tile at this place stand for by the codec, which are so many, in front of the others. It stands
+    /// in the place of the one that was used longest ago, where no more may be kept. Its room is taken, and other room of that size stands
+    /// in its place. Tiles of another size are let go. Where not one of its size may be kept, nothing happens.
+    ///
+    /// # Errors
+    /// `Memory`, and the tile isn't kept.
+    pub fn keep(
+        &mut self,
+        codec: Codec,
+        first: u32,
+        len: usize,
+        row: usize,
+        plain: &mut Vec<u8>,
+    ) -> Result<(), Memory>
+        ensures front { OnOk result (0 < length plain.old.items → length plain.old.items ≤ self.old.most
+            → slice_get self.new.tiles 0 ≡ Some (first, record { codec = codec; len = len; row = row; plain = plain.old })) }
+        ensures of { (f : List ℕ) → AreTilesOf f self.old
+            → PacksBy codec row (bytes_in f (record { first = first; len = len })) plain.old.items
+            → AreTilesOf f self.new }
+        ensures most { self.new.most ≡ self.old.most }
+        ensures size { length plain.new.items ≡ length plain.old.items }
+    {
+        let size = plain.len();
+        let Some(count) = NonZeroUsize::new(self.most.checked_div(size).unwrap_or(0)) else {
+            return Ok(());
+        };
+        fit(&mut self.tiles, &mut self.size, self.alloc, size, count)?;
+        let Some(tiles) = &mut self.tiles else {
+            unreachable!()
+        };
+        put(tiles, self.alloc, codec, first, len, row, plain)
+    }
+}
