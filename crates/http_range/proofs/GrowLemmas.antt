@@ -34,7 +34,7 @@ take_joined n xs ys = elim (cases_lt n (length xs)) [
 
 -- ---- what is found
 
-found_grows : (bytes more : List ℕ) (found : Result SeenHead Why) → found ≢ Err Cut → FindsHead bytes found
+pub found_grows : (bytes more : List ℕ) (found : Result SeenHead Why) → found ≢ Err Cut → FindsHead bytes found
     → FindsHead (bytes ++ more) found
 found_grows bytes more (Ok seen) other finds =
     let next = take (4096 - length bytes) more in
@@ -70,7 +70,7 @@ found_grows bytes more (Err NoRange) other finds = absurd finds
 found_grows bytes more (Err NoLength) other finds = absurd finds
 found_grows bytes more (Err Coding) other finds = absurd finds
 
-found_decided : (bytes : List ℕ) (found : Result SeenHead Why) → 4096 ≤ length bytes → FindsHead bytes found → found ≢ Err Cut
+pub found_decided : (bytes : List ℕ) (found : Result SeenHead Why) → 4096 ≤ length bytes → FindsHead bytes found → found ≢ Err Cut
 found_decided bytes found long finds =
     λ e. let cut : FindsHead bytes (Err Cut) = subst (FindsHead bytes) e finds in let short = cut.0 in absurd (omega arith)
 
@@ -153,10 +153,10 @@ decided bytes r long reads =
     λ e. head_decided reads.0 (found_decided bytes reads.0 long reads.1) (sym reads.2 ∙ e)
 
 -- a head that announces something was found whole
-record IsWhole (bytes : List ℕ) (head : Announced) : Type 0 where
-  response : ResponseHead
-  is : IsHeadOf bytes response
-  told : announced_of (seen_head response) ≡ Ok head
+pub record IsWhole (bytes : List ℕ) (head : Announced) : Type 0 where
+  pub response : ResponseHead
+  pub is : IsHeadOf bytes response
+  pub told : announced_of (seen_head response) ≡ Ok head
 
 whole_by : (bytes : List ℕ) (head : Announced) (found : Result SeenHead Why) → FindsHead bytes found
     → Ok head ≡ (found >>= announced_of) → IsWhole bytes head
@@ -164,7 +164,7 @@ whole_by bytes head (Ok seen) finds told =
     record { response = finds.0; is = finds.1; told = ap announced_of (sym finds.2) ∙ sym told }
 whole_by bytes head (Err why) finds told = absurd (cc)
 
-whole_of : (bytes : List ℕ) (head : Announced) → ReadsHead bytes (Ok head) → IsWhole bytes head
+pub whole_of : (bytes : List ℕ) (head : Announced) → ReadsHead bytes (Ok head) → IsWhole bytes head
 whole_of bytes head reads = whole_by bytes head reads.0 reads.1 reads.2
 
 one : (bytes : List ℕ) (head : Announced) (r : Result Announced Why) → ReadsHead bytes (Ok head) → ReadsHead bytes r → r ≡ Ok head
@@ -206,7 +206,7 @@ sized seen =
     if_sized n (has_other_status seen) (Err (Status seen.status)) _ tt
     (bind_sized n (tag_in seen) (announced_in seen) rows)
 
-size_of : (bytes : List ℕ) (head : Announced) → (whole : IsWhole bytes head) → head.size ≡ length (print_response whole.response)
+pub size_of : (bytes : List ℕ) (head : Announced) → (whole : IsWhole bytes head) → head.size ≡ length (print_response whole.response)
 size_of bytes head whole =
     subst (HasSize (length (print_response whole.response))) whole.told (sized (seen_head whole.response))
 
@@ -265,7 +265,7 @@ none_told bytes r other none reads reading =
     (found_none bytes reads.0 reads.1 (ap is_headless (sym reads.2) ∙ headless_is r none) reading.0 reading.1)
 
 -- a head prints as something
-printed_some : (h : ResponseHead) → length (print_response h) ≢ 0
+pub printed_some : (h : ResponseHead) → length (print_response h) ≢ 0
 printed_some h =
     let later : List ℕ = 32 ∷ (h.digits ++ (print_reason h.reason ++ (print_end h.line_end ++ (print_section h.fields h.last ++ [])))) in
     let is = ap length (print_response-append h []) in

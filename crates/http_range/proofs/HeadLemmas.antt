@@ -21,12 +21,12 @@ pub head_found : (bytes front : List ℕ) (spans : List HeaderSpan) (r : Respons
     → fields ≡ fields_at front (take r.headers spans) → front ≡ take 4096 bytes
     → length spans ≡ 32 → IsResponseOf front spans r
     → (h : ResponseHead) × IsHeadOf bytes h
-    × (◌≡◌ {A = SeenHead} (record { status = r.code; fields = fields; size = r.len }) (seen_head h))
+    × (◌≡◌ {A = SeenHead} (record { status = r.code; minor = r.version; fields = fields; size = r.len }) (seen_head h))
 head_found bytes front spans r fields same is long of =
     let at = of.1 in (
       of.0,
       record { rest = drop r.len front; reads = rw (← is) at.reads; room = room_of front spans r.headers of.0.fields long at.fields },
-      λ i. record { status = at.code i; fields = (same ∙ at.fields) i; size = at.len i },
+      λ i. record { status = at.code i; minor = at.version i; fields = (same ∙ at.fields) i; size = at.len i },
     )
 
 pub head_cut : (bytes front : List ℕ) → front ≡ take 4096 bytes → take 4096 bytes ≡ bytes → length bytes < 4096

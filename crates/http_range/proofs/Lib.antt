@@ -17,3 +17,4 @@ pub mod ScanLemmas
 pub mod MessageLemmas
 pub mod FirstHead
 pub mod StreamLemmas
+pub mod FrameLemmas

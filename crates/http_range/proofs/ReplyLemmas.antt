@@ -181,7 +181,7 @@ module _ (laws : PartsAreRead) where
       let both = and_parts _ _ kept in rw (laws.tags.strong tag both.0, both.0, both.1)
 
   pub reads_206 : (tag : List ℕ) (a b l : ℕ) (close : Bool) (size : ℕ) → IsSent (R206 tag a b l)
-      → announced_of (record { status = 206; fields = fields_of (R206 tag a b l) ++ closing close; size = size })
+      → announced_of (record { status = 206; minor = 1; fields = fields_of (R206 tag a b l) ++ closing close; size = size })
       ≡ reply_announced (R206 tag a b l) size
   reads_206 tag a b l close size sent = by_closing close
     where
@@ -190,7 +190,7 @@ module _ (laws : PartsAreRead) where
       part range m is long = rw (kept_read tag sent.0, is, long, eq-eqb (b - a + 1) (b - a + 1) refl)
 
       by_closing : (close : Bool)
-          → announced_of (record { status = 206; fields = fields_of (R206 tag a b l) ++ closing close; size = size })
+          → announced_of (record { status = 206; minor = 1; fields = fields_of (R206 tag a b l) ++ closing close; size = size })
           ≡ reply_announced (R206 tag a b l) size
       by_closing true =
           let ab = sent.1 in let bl = sent.2 in let small = sent.3 in
@@ -200,7 +200,7 @@ module _ (laws : PartsAreRead) where
           part _ _ (range_of-content_range a b l sent.1 sent.2 sent.3) (laws.decimals.number_64 (b - a + 1) (omega arith))
 
   pub reads_200 : (tag : List ℕ) (l : ℕ) (close : Bool) (size : ℕ) → IsSent (R200 tag l)
-      → announced_of (record { status = 200; fields = fields_of (R200 tag l) ++ closing close; size = size })
+      → announced_of (record { status = 200; minor = 1; fields = fields_of (R200 tag l) ++ closing close; size = size })
       ≡ reply_announced (R200 tag l) size
   reads_200 tag l close size sent = by_closing close
     where
@@ -209,7 +209,7 @@ module _ (laws : PartsAreRead) where
       whole m long = rw (kept_read tag sent.0, long)
 
       by_closing : (close : Bool)
-          → announced_of (record { status = 200; fields = fields_of (R200 tag l) ++ closing close; size = size })
+          → announced_of (record { status = 200; minor = 1; fields = fields_of (R200 tag l) ++ closing close; size = size })
           ≡ reply_announced (R200 tag l) size
       by_closing true = whole _ (laws.decimals.number_64 l sent.1)
       by_closing false = whole _ (laws.decimals.number_64 l sent.1)

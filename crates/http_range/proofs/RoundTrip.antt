@@ -73,6 +73,7 @@ record IsFoundHead (reply : Reply) (close : Bool) (k : ℕ) (found : Result Seen
   whole : length (head_text reply close) ≤ k
       → found ≡ Ok (record {
         status = status_of reply;
+        minor = 1;
         fields = fields_of reply ++ closing close;
         size = length (head_text reply close);
       })
@@ -110,12 +111,12 @@ module _ (laws : PartsAreRead) where
     room = let n = few in omega (arith, length-fields lines)
 
     -- what is seen of the head
-    seen_is : seen_head head ≡ record { status = status_of reply; fields = lines; size = length (head_text reply close) }
+    seen_is : seen_head head ≡ record { status = status_of reply; minor = 1; fields = lines; size = length (head_text reply close) }
     seen_is =
-        λ i. record { status = (status reply).code i; fields = seen-are laws lines plain i; size = length (sym printed i) }
+        λ i. record { status = (status reply).code i; minor = 1; fields = seen-are laws lines plain i; size = length (sym printed i) }
 
     found_there : (bytes rest : List ℕ) → bytes ≡ head_text reply close ++ rest → (found : Result SeenHead Why)
-        → FindsHead bytes found → found ≡ Ok (record { status = status_of reply; fields = lines; size = length (head_text reply close) })
+        → FindsHead bytes found → found ≡ Ok (record { status = status_of reply; minor = 1; fields = lines; size = length (head_text reply close) })
     found_there bytes rest parts found finds =
         let fits : length (print_response head) ≤ 4096 = subst (λ (t : List ℕ). length t ≤ 4096) printed small in
         found_whole bytes head found
@@ -130,7 +131,7 @@ module _ (laws : PartsAreRead) where
 
   -- what the fields of a reply say
   reads_reply : (reply : Reply) (close : Bool) (size : ℕ) → IsSent reply
-      → announced_of (record { status = status_of reply; fields = fields_of reply ++ closing close; size = size }) ≡ reply_announced reply size
+      → announced_of (record { status = status_of reply; minor = 1; fields = fields_of reply ++ closing close; size = size }) ≡ reply_announced reply size
   reads_reply (R200 tag l) close size sent = reads_200 laws tag l close size sent
   reads_reply (R206 tag a b l) close size sent = reads_206 laws tag a b l close size sent
   reads_reply (R304 tag) close size sent = refl
@@ -142,7 +143,7 @@ module _ (laws : PartsAreRead) where
 
   -- what a check reads of them
   reads_tag : (reply : Reply) (close : Bool) (size : ℕ) → IsSent reply
-      → check_tag (record { status = status_of reply; fields = fields_of reply ++ closing close; size = size }) ≡ tag_seen reply
+      → check_tag (record { status = status_of reply; minor = 1; fields = fields_of reply ++ closing close; size = size }) ≡ tag_seen reply
   reads_tag (R200 tag l) true size sent = kept_read laws tag sent.0
   reads_tag (R200 tag l) false size sent = kept_read laws tag sent.0
   reads_tag (R206 tag a b l) true size sent = kept_read laws tag sent.0
@@ -176,7 +177,7 @@ module _ (laws : PartsAreRead) where
   -- what is read of them, by what is read of the whole head
   front_by : {A : Type 0} (of : SeenHead → Result A Why) (told : Result A Why) (reply : Reply) (close : Bool) (body : List ℕ) (k : ℕ)
       → IsSent reply
-      → of (record { status = status_of reply; fields = fields_of reply ++ closing close; size = length (head_text reply close) }) ≡ told
+      → of (record { status = status_of reply; minor = 1; fields = fields_of reply ++ closing close; size = length (head_text reply close) }) ≡ told
       → (bytes : List ℕ) → bytes ≡ take k (head_text reply close ++ body) → (found : Result SeenHead Why) → FindsHead bytes found
       → (found >>= of) ≡ cond (leb (length (head_text reply close)) k) told (Err Cut)
   front_by of told reply close body k sent tells bytes is found finds =

@@ -5,7 +5,7 @@ use Rattle.http_range.specs.declared.reading.Why.{Why}
 use Rattle.http_range.specs.Head.{SeenHead}
 
 abbrev pub head_seen : AnswerHead → SeenHead
-head_seen head = record { status = head.status; fields = head.fields; size = head.size }
+head_seen head = record { status = head.status; minor = head.minor; fields = head.fields; size = head.size }
 
 abbrev pub found_seen : Result AnswerHead Why → Result SeenHead Why
 found_seen (Ok head) = Ok (head_seen head)

@@ -10,6 +10,7 @@ use Rattle.http_fields.specs.Text.{FieldLine}
 -- what is read of a head, and how many bytes it has
 pub record SeenHead : Type 0 where
   pub status : ℕ
+  pub minor : ℕ  -- the minor version: 1 of HTTP/1.1
   pub fields : List FieldLine
   pub size : ℕ
 
@@ -20,7 +21,7 @@ pub record IsHeadOf (bytes : List ℕ) (h : ResponseHead) : Type 0 where
   pub room : length h.fields ≤ FIELD_LIMIT
 
 abbrev pub seen_head : ResponseHead → SeenHead
-seen_head h = record { status = status_code h; fields = map name_and_value h.fields; size = length (print_response h) }
+seen_head h = record { status = status_code h; minor = h.minor; fields = map name_and_value h.fields; size = length (print_response h) }
 
 -- what is answered of the head of bytes: its parts, or that it is *cut*, a front of a head, and too short to be refused, or that
 -- it is a *refused head*: none ends in the first 4,096 bytes, or none of at most 32 fields begins there, whatever follows

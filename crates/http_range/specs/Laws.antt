@@ -15,6 +15,8 @@ use Rattle.http_range.specs.declared.reply.Reply.{Reply}
 use Rattle.http_range.specs.Reply.{IsSent, head_text}
 use Rattle.http_range.specs.Piece.{SeenPiece}
 use Rattle.http_range.specs.Announced.{Announced, body_behind, FitsFront}
+use Rattle.http_range.specs.declared.frame.Frame.{Frame}
+use Rattle.http_range.specs.Frame.{ReadsFrame}
 use Rattle.http_range.specs.Reading.{front_seen, front_announced, front_tag, ReadsHead, ReadsAnswer, ReadsCheck}
 use Rattle.http_range.specs.ContentRange.{IsContentRange, range_of}
 use Rattle.http_range.specs.declared.reading.ContentRange.{ContentRange}
@@ -181,6 +183,27 @@ pub record HeadsGrow : Type 0 where
   -- a head that is read only when bytes follow ends in those
   pub behind : (front more : List ℕ) (head : Announced) → ((r : Result Announced Why) → ReadsHead front r → HasNone r)
       → ReadsHead (front ++ more) (Ok head) → length front < head.size
+
+-- where an answer ends stays when bytes follow
+pub record FramesGrow : Type 0 where
+  -- what isn't *cut* is read of the longer bytes, too
+  pub stays : (front more : List ℕ) (r : Result Frame Why) → r ≢ Err Cut → ReadsFrame front r → ReadsFrame (front ++ more) r
+  -- a head is not *cut* where there are 4,096 bytes
+  pub decided : (bytes : List ℕ) (r : Result Frame Why) → HEAD_LIMIT ≤ length bytes → ReadsFrame bytes r → r ≢ Err Cut
+  -- a whole head is read in one way
+  pub one : (bytes : List ℕ) (frame : Frame) (r : Result Frame Why) → ReadsFrame bytes (Ok frame) → ReadsFrame bytes r → r ≡ Ok frame
+  -- it has some bytes, which are all there, 4,096 at most
+  pub some : (bytes : List ℕ) (frame : Frame) → ReadsFrame bytes (Ok frame) → 0 < frame.size
+  pub there : (bytes : List ℕ) (frame : Frame) → ReadsFrame bytes (Ok frame) → frame.size ≤ length bytes
+  pub short : (bytes : List ℕ) (frame : Frame) → ReadsFrame bytes (Ok frame) → frame.size ≤ HEAD_LIMIT
+  -- it is read of its own bytes
+  pub own : (bytes : List ℕ) (frame : Frame) → ReadsFrame bytes (Ok frame) → ReadsFrame (take frame.size bytes) (Ok frame)
+  -- a head that is read only when bytes follow ends in those
+  pub behind : (front more : List ℕ) (frame : Frame) → ((f : Frame) → ¬ (ReadsFrame front (Ok f))) → ReadsFrame (front ++ more) (Ok frame)
+      → length front < frame.size
+  -- the length is that of the body that is announced
+  pub announced : (bytes : List ℕ) (head : Announced) (frame : Frame) → ReadsHead bytes (Ok head) → ReadsFrame bytes (Ok frame)
+      → (frame.length ≡ Some head.length) × (frame.size ≡ head.size)
 
 -- what is read of an answer, or of a front of it
 pub record FrontsAreRead : Type 0 where

@@ -22,3 +22,4 @@ pub mod Stream
 pub mod Scan
 pub mod Honest
 pub mod Laws
+pub mod Frame

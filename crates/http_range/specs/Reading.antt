@@ -88,18 +88,9 @@ ReadsAnswer bytes r = (head : Result Announced Why) × ReadsHead bytes head × (
 
 -- ---- the connection
 
--- the head says that the connection ends with the answer (RFC 9112, section 9.6); the version isn't asked, by which one of HTTP/1.0 ends
--- it, too (section 9.3)
+-- the head says that the connection ends with the answer (RFC 9112, section 9.6)
 abbrev pub says_close : SeenHead → Bool
 says_close head = list_any (has_member (codes "close")) (values_of (codes "Connection") head.fields)
-
--- the connection ends with an answer whose head says so, or isn't there
-abbrev pub ends_by : Result SeenHead Why → Bool
-ends_by (Ok head) = says_close head
-ends_by (Err why) = true
-
-abbrev pub EndsConnection : List ℕ → Bool → Type 0
-EndsConnection bytes ends = (found : Result SeenHead Why) × FindsHead bytes found × (ends ≡ ends_by found)
 
 -- ---- the answer to a client's check
 

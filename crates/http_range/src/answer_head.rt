@@ -2,7 +2,7 @@
 ghost use Rattle.std.specs.Prelude.{◌≡◌, ◌≤◌, Some, length, option_copied, take};
 ghost use Rattle.http_range.specs.Head.{FindsHead};
 ghost use Rattle.http_range.specs.AnswerHead.{head_seen, found_seen};
-ghost use Rattle.http_range.specs.Reading.{EndsConnection, is_coded, says_close, tag_by_rows, tag_in};
+ghost use Rattle.http_range.specs.Reading.{is_coded, says_close, tag_by_rows, tag_in};
 
 use crate::reading::Why;
 use http_fields::fields::HeaderFields;
@@ -15,6 +15,8 @@ use httparse::spans::{EMPTY_HEADER_SPAN, parse_response};
 #[derive(Drop)]
 pub(crate) struct AnswerHead<'b> {
     pub(crate) status: u16,
+    /// The minor version: 1 of HTTP/1.1.
+    pub(crate) minor: u8,
     pub(crate) fields: HeaderFields<'b>,
     pub(crate) size: usize,
 }
@@ -41,6 +43,7 @@ pub(crate) fn head_of(bytes: &[u8]) -> Result<AnswerHead<'_>, Why>
     match parse_response(front, &mut spans) {
         Ok(Status::Complete(head)) => Ok(AnswerHead {
             status: head.code,
+            minor: head.version,
             fields: HeaderFields::new(front, spans, head.headers),
             size: head.len,
         }),
@@ -55,19 +58,9 @@ pub(crate) fn head_of(bytes: &[u8]) -> Result<AnswerHead<'_>, Why>
     }
 }
 
-/// Whether the connection ends with the answer: its head, read from a front of it, says so (RFC 9112, section 9.6), or isn't there. The
-/// version isn't asked.
-pub fn ends_connection(bytes: &[u8]) -> bool
-    ensures { EndsConnection bytes.now result }
-{
-    match head_of(bytes) {
-        Ok(head) => head.says_close(),
-        Err(_) => true,
-    }
-}
-
 impl<'b> AnswerHead<'b> {
-    fn says_close(&self) -> bool
+    /// Whether the head says that the connection ends with the answer (RFC 9112, section 9.6).
+    pub(crate) fn says_close(&self) -> bool
         ensures { result ≡ says_close (head_seen self.now) }
     {
         self.fields.has_member(b"Connection", b"close")

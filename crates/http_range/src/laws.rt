@@ -1,6 +1,6 @@
 //! Laws of the definitions, for the crates above. Each function does nothing but name the laws
 //! that it rests on: its contract is the law.
-ghost use Rattle.http_range.specs.Laws.{HeadsGrow, FrontsAreRead, ChecksAreRead, HonestyIsKept, ContentRangesAreForms, TagsTellPublications, PublicationTagsAreKept, AnswersAreUnique, StreamsAreAnsweredOnce, MessagesStay, MessagesAreTested, HeadsAreMessages, HeadsStay, ClientsAreAnswered, RequestsAreAnswered, ChecksAreAnswered, ClientsAreServed, OpenClientsAreServed, ChecksAreServed, PublishReplaces, PublishedIsNamed};
+ghost use Rattle.http_range.specs.Laws.{HeadsGrow, FramesGrow, FrontsAreRead, ChecksAreRead, HonestyIsKept, ContentRangesAreForms, TagsTellPublications, PublicationTagsAreKept, AnswersAreUnique, StreamsAreAnsweredOnce, MessagesStay, MessagesAreTested, HeadsAreMessages, HeadsStay, ClientsAreAnswered, RequestsAreAnswered, ChecksAreAnswered, ClientsAreServed, OpenClientsAreServed, ChecksAreServed, PublishReplaces, PublishedIsNamed};
 ghost use Rattle.http_fields.specs.Laws.{TagsAreQuoted};
 
 use http_fields::laws::law_parts_are_read;
@@ -54,6 +54,11 @@ pub fn law_honesty_is_kept()
 /// What is read of an answer's head stays when bytes follow.
 pub fn law_heads_grow()
     ensures { HeadsGrow }
+{}
+
+/// Where an answer ends stays when bytes follow.
+pub fn law_frames_grow()
+    ensures { FramesGrow }
 {}
 
 /// What is read of a server's answer, whole or cut.

@@ -7,6 +7,7 @@
 mod answer_head;
 mod ask;
 mod check;
+mod frame;
 mod laws;
 mod publication;
 mod range;
@@ -15,17 +16,17 @@ mod reply;
 mod request;
 mod stream;
 
-pub use answer_head::ends_connection;
 pub use ask::{write_check, write_open_request, write_request};
 pub use check::{CheckReading, read_check};
 pub use extents::{Memory, Span};
+pub use frame::{Frame, read_frame};
 pub use http_fields::conditional::any_match;
 pub use http_fields::laws::law_limits_are;
 pub use http_fields::limits::{ANSWERS_LIMIT, MESSAGE_LIMIT};
 pub use http_fields::names::{is_host, is_name};
 pub use http_fields::tag::Tag;
 pub use laws::{
-    law_answers_are_unique, law_clients_are_answered, law_fronts_are_read, law_heads_grow,
+    law_answers_are_unique, law_clients_are_answered, law_frames_grow, law_fronts_are_read, law_heads_grow,
     law_honesty_is_kept, law_messages_stay, law_publications_replace, law_tags_tell_publications,
     law_values_have_forms,
 };

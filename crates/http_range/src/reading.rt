@@ -235,7 +235,7 @@ pub(crate) fn has_other_status(head: &AnswerHead) -> bool
     head.status != 200 && head.status != 206
 }
 
-fn announced_of(head: &AnswerHead) -> Result<Head, Why>
+pub(crate) fn announced_of(head: &AnswerHead) -> Result<Head, Why>
     ensures value { announced_seen result ≡ announced_of (head_seen head.now) }
     ensures fits { IfOk (announced_seen result) FitsFile }
 {
