@@ -1,0 +1,4 @@
+pub mod Answers
+pub mod Status
+pub mod Run
+pub mod Inside

@@ -1,0 +1,13 @@
+//! What holds of all runs. The function does nothing: its contract is the law.
+ghost use Rattle.client_connection.specs.Run.{AnswersAreInOrder, CutsDoNotMatter};
+
+use http_range::law_frames_grow;
+
+/// Whatever is asked, written, lost and comes, in pieces of any size: on each connection the answer at a place is the one to the
+/// request at that place. A connection goes on only after a whole answer that was used.
+pub fn law_answers_are_in_order()
+    ensures order { AnswersAreInOrder }
+    ensures one { CutsDoNotMatter }
+{
+    law_frames_grow();
+}
