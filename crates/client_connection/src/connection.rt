@@ -251,7 +251,7 @@ impl ClientConnection {
     }
 
     /// Returns whether an answer is to come.
-    fn is_asked(&self) -> bool
+    pub fn is_asked(&self) -> bool
         ensures no { result ≡ false → self.now.out ≡ [] }
         ensures yes { result ≡ true → 0 < length self.now.out }
     {

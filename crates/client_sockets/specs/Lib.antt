@@ -1,2 +1,1 @@
 pub mod Sockets
-pub mod Early

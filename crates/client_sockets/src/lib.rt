@@ -2,7 +2,6 @@
 //! for each request, or over one that is kept from answer to answer.
 #![tactic(auto)]
 
-mod kept;
 mod socket;
 
 pub use socket::Socket;

@@ -1,16 +1,15 @@
 //! Connections to a server that is named by its address: one for each request, or one that is kept from answer to answer.
-ghost use Rattle.std.specs.Prelude.{◌≡◌, ◌≤◌, ◌⊎◌, ◌++◌, ◌<◌, ℕ, List, [], ◌↔◌, IfOk, IfSome, IsErr, IsSome, IsTrue, None, OnOk, Some, false, length, take, true};
-ghost use Rattle.cog_fetch.specs.AnswerEnd.{IsWholeAnswer, MayGoOn};
-ghost use Rattle.client_sockets.specs.declared.kept.Turn.TheVariants.{Anew};
-ghost use Rattle.client_sockets.specs.Early.{again_of, early_of, IsOwnPiece, IsTurn, SendsAlike};
-ghost use Rattle.client_sockets.specs.Sockets.{exchanges_of, keeps, server_of, HasCome, IsConnected, IsFresh, IsOver, IsUntold, Notes};
+ghost use Rattle.std.specs.Prelude.{◌≡◌, ◌<◌, ◌≤◌, ℕ, [], None, Some, false, true, IfOk, length, take};
+ghost use Rattle.client_connection.specs.Status.{over};
+ghost use Rattle.client_sockets.specs.Sockets.{connection_of, exchanges_of, keeps, server_of};
 
-use crate::kept::{Kept, Turn};
+use client_connection::{ClientConnection, Part, Turn};
 use cog_client::{Lost, Pieces};
+use http_fields::limits::HEAD_LIMIT;
 use std::io::{ErrorKind, Read, Write};
 use std::net::{Net, TcpStream};
 
-/// Reads what is there, or waits for it. None at the end of the stream.
+/// Reads what is there, or waits for it. Returns 0 at the end of the stream.
 fn read_some(stream: &mut TcpStream, out: &mut [u8]) -> Result<usize, Lost>
     ensures { IfOk result (λ n. n ≤ length out.new) }
 {
@@ -23,288 +22,403 @@ fn read_some(stream: &mut TcpStream, out: &mut [u8]) -> Result<usize, Lost>
     Err(Lost)
 }
 
-/// Sends requests, and brings the answers as they arrive. It speaks for no file, since no contract says what a network brings. A
-/// connection that fails loses the rest of the answer.
+/// Returns whether the stream is open and brings nothing now.
+fn is_quiet(stream: &mut TcpStream) -> bool {
+    if stream.set_nonblocking(true).is_err() {
+        return false;
+    }
+    let read = stream.read(&mut [0]);
+    let waits = matches!(read, Err(error) if error.kind() == ErrorKind::WouldBlock);
+    waits && stream.set_nonblocking(false).is_ok()
+}
+
+/// Sends requests, and brings the answers as they arrive. It speaks for no file, since no contract says what a network brings.
+///
+/// It moves the bytes of a `ClientConnection`, which has the rules: where an answer ends, when the connection goes on after it, and what
+/// is sent once more.
 #[derive(Drop)]
 pub struct Socket<'r, R> {
     rt: &'r R,
     server: &'r str,
-    stream: Option<TcpStream>,
+    keeps: bool,
     exchanges: u64,
-    kept: Option<Kept>,
+    stream: Option<TcpStream>,
+    connection: ClientConnection,
+    /// Bytes that were read, and belong to a head or follow one.
+    unread: Vec<u8>,
+    /// How many bytes of the head were handed on.
+    handed: usize,
+    /// Nothing more of the answer comes.
+    is_over: bool,
+    /// The connection failed.
+    is_broken: bool,
 }
 
-impl<'r, R> Socket<'r, R> {
-    /// A source at the server at `HOST:PORT`, without exchanges. Each request has a connection of its own.
+impl<'r, R: Net<Stream = TcpStream> + AllocGlobal> Socket<'r, R> {
+    /// Makes a source at the server at `HOST:PORT`, without exchanges. Each request has a connection of its own.
     pub fn new(rt: &'r R, server: &'r str) -> Self
         ensures server { server_of result ≡ server.entry.now }
         ensures exchanges { exchanges_of result ≡ 0 }
-        ensures alone { ¬ IsConnected result }
+        ensures alone { connection_of result ≡ over [] }
         ensures apart { keeps result ≡ false }
     {
         Socket {
             rt,
             server,
-            stream: None,
+            keeps: false,
             exchanges: 0,
-            kept: None,
+            stream: None,
+            connection: ClientConnection::new(rt.alloc()),
+            unread: Vec::new(rt.alloc()),
+            handed: 0,
+            is_over: false,
+            is_broken: false,
         }
     }
 
-    /// Reads the next bytes of the answer. The connection ends with the stream, and with a read that fails.
-    fn receive(&mut self, out: &mut [u8]) -> Result<usize, Lost>
-        ensures few { IfOk result (λ n. n ≤ length out.new) }
-        ensures server { server_of self.new ≡ server_of self.old }
-        ensures exchanges { exchanges_of self.new ≡ exchanges_of self.old }
-        ensures unsent { ¬ IsConnected self.old → IsErr result }
-        ensures goes_on { IfOk result (λ n. 0 < n → IsConnected self.new) }
-        ensures ended { IfOk result (λ n. n ≡ 0 → ¬ IsConnected self.new) }
-        ensures err { IsErr result → ¬ IsConnected self.new }
-        ensures kept { self.new.kept ≡ self.old.kept }
-    {
-        let Some(stream) = &mut self.stream else {
-            return Err(Lost);
-        };
-        let read = read_some(stream, out);
-        if !matches!(&read, Ok(1..)) {
-            self.stream = None;
-        }
-        read
-    }
-
-    /// How many bytes of those that there is room for are read at once.
-    fn piece(&self, room: usize) -> usize
-        ensures few { result ≤ room }
-        ensures some { 0 < room → 0 < result }
-        ensures own { IsOwnPiece self.now result }
-    {
-        match &self.kept {
-            Some(kept) => kept.piece(room),
-            None => room,
-        }
-    }
-
-    /// Notes how far the answer on a connection that is kept has come with these bytes. The connection ends where they aren't an
-    /// answer's.
-    fn note(&mut self, bytes: &[u8])
-        ensures server { server_of self.new ≡ server_of self.old }
-        ensures exchanges { exchanges_of self.new ≡ exchanges_of self.old }
-        ensures noted { (front : List ℕ) → HasCome self.old front → HasCome self.new (front ++ bytes.now) ⊎ IsUntold self.new }
-        ensures alone { keeps self.old ≡ false → self.new.stream ≡ self.old.stream }
-        ensures goes_on { IfSome self.old.kept (λ kept. kept.was_early ≡ false → self.new.stream ≡ self.old.stream) }
-        ensures stays { keeps self.new ≡ keeps self.old }
-        ensures sent { SendsAlike self.old self.new }
-    {
-        let Some(kept) = &mut self.kept else {
-            return;
-        };
-        if kept.is_astray(bytes) {
-            self.stream = None;
-        }
-        kept.came(bytes);
-    }
-
-    /// Reads the next bytes of the answer, on a connection that is kept no more than its own, and notes them.
-    fn receive_noting(&mut self, out: &mut [u8]) -> Result<usize, Lost>
-        ensures few { IfOk result (λ n. n ≤ length out.new) }
-        ensures server { server_of self.new ≡ server_of self.old }
-        ensures exchanges { exchanges_of self.new ≡ exchanges_of self.old }
-        ensures own { IfOk result (IsOwnPiece self.old) }
-        ensures noted { IfOk result (λ n. (front : List ℕ) → HasCome self.old front
-            → HasCome self.new (front ++ take n out.new) ⊎ IsUntold self.new) }
-        ensures stays { keeps self.new ≡ keeps self.old }
-        ensures sent { SendsAlike self.old self.new }
-    {
-        let most = self.piece(out.len());
-        let count = self.receive(&mut out[..most])?;
-        self.note(&out[..count]);
-        Ok(count)
-    }
-
-    /// Whether nothing is waited for any more of the answer on a connection that is kept.
-    fn is_over(&self) -> bool
-        ensures { IsTrue result ↔ IsOver self.now }
-    {
-        match &self.kept {
-            Some(kept) => kept.is_over(),
-            None => false,
-        }
-    }
-
-    /// The request that is sent once more: its connection was kept, and ended before a byte of its answer came.
-    fn unanswered(&mut self) -> Option<Vec<u8>>
-        ensures ended { IsSome result → ¬ IsConnected self.old }
-        ensures same { IfSome result (λ text. IfSome self.old.kept (λ k. again_of k ≡ Some text.items)) }
-        ensures kept { result ≡ None → self.new ≡ self.old }
-        ensures server { server_of self.new ≡ server_of self.old }
-        ensures exchanges { exchanges_of self.new ≡ exchanges_of self.old }
-        ensures stays { keeps self.new ≡ keeps self.old }
-    {
-        match (&self.stream, &mut self.kept) {
-            (None, Some(kept)) => kept.unanswered(),
-            _ => None,
-        }
-    }
-}
-
-impl<'r, R: Net<Stream = TcpStream> + AllocGlobal> Socket<'r, R> {
-    /// Keeps its connection from here on: it reads each answer by the length that its head announces, and sends the next request
-    /// behind it. It connects anew where the server closed the connection, or says that it does, where an answer has no length that
-    /// can be trusted, and where one wasn't read to its end (RFC 9112, section 9.3). Its requests are to be GETs.
+    /// Keeps its connection from here on, and sends the next request after each answer. It connects anew where the connection ended, and
+    /// after an answer that isn't used or wasn't read to its end (RFC 9112, section 9.3). Its requests are to be GETs.
     pub fn keep_open(&mut self)
         ensures server { server_of self.new ≡ server_of self.old }
         ensures exchanges { exchanges_of self.new ≡ exchanges_of self.old }
-        ensures alone { ¬ IsConnected self.new }
+        ensures alone { connection_of self.new ≡ over [] }
         ensures keeps { keeps self.new ≡ true }
-        ensures fresh { IsFresh self.new }
     {
-        self.stream = None;
-        self.kept = Some(Kept::new(self.rt.alloc()));
+        self.close();
+        self.keeps = true;
     }
 
-    /// Writes a request: on the connection that is kept, or on a new one.
+    /// Ends the connection.
+    fn close(&mut self)
+        ensures server { server_of self.new ≡ server_of self.old }
+        ensures exchanges { exchanges_of self.new ≡ exchanges_of self.old }
+        ensures keeps { keeps self.new ≡ keeps self.old }
+        ensures alone { connection_of self.new ≡ over [] }
+    {
+        self.stream = None;
+        self.unread.clear();
+        self.connection.end();
+    }
+
+    /// Ends the connection, which failed.
+    fn give_up(&mut self)
+        ensures server { server_of self.new ≡ server_of self.old }
+        ensures exchanges { exchanges_of self.new ≡ exchanges_of self.old }
+        ensures keeps { keeps self.new ≡ keeps self.old }
+        ensures alone { connection_of self.new ≡ over [] }
+    {
+        self.close();
+        self.is_broken = true;
+    }
+
+    /// Sends a request: on the connection that is kept, or on a new one. One that was sent early isn't written again.
     pub fn send(&mut self, request: &[u8]) -> Result<(), Lost>
         ensures server { server_of self.new ≡ server_of self.old }
         ensures exchanges { exchanges_of self.new ≡ exchanges_of self.old }
-        ensures connected { OnOk result (IsConnected self.new) }
-        ensures alone { IsErr result → ¬ IsConnected self.new }
-        ensures begun { OnOk result (HasCome self.new []) }
-        ensures stays { keeps self.new ≡ keeps self.old }
+        ensures keeps { keeps self.new ≡ keeps self.old }
     {
-        if self.send_on(request) {
-            return Ok(());
-        }
-        self.connect(request)
-    }
-
-    /// Writes a request on the connection that is kept, if there is one and the answer before is whole; one that was sent early isn't
-    /// written again. Says whether its answer comes next.
-    fn send_on(&mut self, request: &[u8]) -> bool
-        ensures server { server_of self.new ≡ server_of self.old }
-        ensures exchanges { exchanges_of self.new ≡ exchanges_of self.old }
-        ensures connected { result ≡ true → IsConnected self.new }
-        ensures whole { result ≡ true → (bytes : List ℕ) → HasCome self.old bytes → IsWholeAnswer bytes }
-        ensures goes { result ≡ true → (bytes : List ℕ) → HasCome self.old bytes → MayGoOn bytes }
-        ensures begun { result ≡ true → HasCome self.new [] }
-        ensures stays { keeps self.new ≡ keeps self.old }
-    {
-        if self.stream.is_none() {
-            return false;
-        }
-        match self.turn(request) {
-            Turn::Sent => true,
-            Turn::Sends => self.write(request),
-            Turn::Anew => false,
+        self.begin();
+        match self.connection.ask(request) {
+            Ok(Turn::Sent) => Ok(()),
+            Ok(Turn::Sends) => self.send_on(),
+            Ok(Turn::Anew) => self.connect(),
+            Err(_) => {
+                self.close();
+                Err(Lost)
+            }
         }
     }
 
-    /// How a request comes behind the answer before, on the connection that is kept.
-    fn turn(&mut self, request: &[u8]) -> Turn
+    /// Begins an exchange. A connection that isn't to be kept ends, and so does one that brought bytes that nothing asked for, or was
+    /// closed.
+    fn begin(&mut self)
         ensures server { server_of self.new ≡ server_of self.old }
         ensures exchanges { exchanges_of self.new ≡ exchanges_of self.old }
-        ensures stream { self.new.stream ≡ self.old.stream }
-        ensures whole { ¬ (result ≡ Anew) → (bytes : List ℕ) → HasCome self.old bytes → IsWholeAnswer bytes }
-        ensures goes { ¬ (result ≡ Anew) → (bytes : List ℕ) → HasCome self.old bytes → MayGoOn bytes }
-        ensures begun { ¬ (result ≡ Anew) → HasCome self.new [] }
-        ensures turn { IfSome self.old.kept (λ old. IfSome self.new.kept (λ new. IsTurn result (early_of old) request.now (early_of new))) }
-        ensures again { ¬ (result ≡ Anew) → IfSome self.new.kept (λ k. again_of k ≡ Some request.now) }
-        ensures stays { keeps self.new ≡ keeps self.old }
+        ensures keeps { keeps self.new ≡ keeps self.old }
     {
-        match &mut self.kept {
-            Some(kept) => kept.goes_on(self.rt.alloc(), request),
-            None => Turn::Anew,
+        self.handed = 0;
+        self.is_over = false;
+        self.is_broken = false;
+        if !self.may_go_on() {
+            self.close();
         }
     }
 
-    /// Writes a request on the connection that is there, and says whether it did.
-    fn write(&mut self, request: &[u8]) -> bool
+    /// Returns whether the next request may come on the connection that is there.
+    fn may_go_on(&mut self) -> bool
         ensures server { server_of self.new ≡ server_of self.old }
         ensures exchanges { exchanges_of self.new ≡ exchanges_of self.old }
-        ensures connected { result ≡ true → IsConnected self.new }
-        ensures kept { self.new.kept ≡ self.old.kept }
+        ensures keeps { keeps self.new ≡ keeps self.old }
     {
+        if self.connection.is_asked() {
+            return self.keeps;
+        }
         match &mut self.stream {
-            Some(stream) => stream.write_all(request).is_ok(),
+            Some(stream) => self.keeps && self.unread.is_empty() && is_quiet(stream),
             None => false,
         }
     }
 
-    /// Writes requests early, behind the one that was sent, as far as they weren't. The connection ends with a write that fails.
+    /// Writes what waits on the connection that is kept, or on a new one where that was closed.
+    fn send_on(&mut self) -> Result<(), Lost>
+        ensures server { server_of self.new ≡ server_of self.old }
+        ensures exchanges { exchanges_of self.new ≡ exchanges_of self.old }
+        ensures keeps { keeps self.new ≡ keeps self.old }
+    {
+        if self.write() {
+            return Ok(());
+        }
+        if self.connection.gone() {
+            return self.connect();
+        }
+        self.close();
+        Err(Lost)
+    }
+
+    /// Connects, and writes the request that waits for a connection.
+    fn connect(&mut self) -> Result<(), Lost>
+        requires { (connection_of self.old).is_open ≡ false }
+        ensures server { server_of self.new ≡ server_of self.old }
+        ensures exchanges { exchanges_of self.new ≡ exchanges_of self.old }
+        ensures keeps { keeps self.new ≡ keeps self.old }
+    {
+        if self.try_connect() {
+            return Ok(());
+        }
+        self.give_up();
+        Err(Lost)
+    }
+
+    fn try_connect(&mut self) -> bool
+        requires { (connection_of self.old).is_open ≡ false }
+        ensures server { server_of self.new ≡ server_of self.old }
+        ensures exchanges { exchanges_of self.new ≡ exchanges_of self.old }
+        ensures keeps { keeps self.new ≡ keeps self.old }
+    {
+        self.unread.clear();
+        self.stream = TcpStream::connect(self.rt, self.server).ok();
+        if let Some(stream) = &self.stream {
+            // Requests that are sent early aren't held back until the one before is acknowledged. Where that can't be set, they come
+            // later.
+            let _ = stream.set_nodelay(true);
+        }
+        self.connection.opened().is_ok() && self.write()
+    }
+
+    /// Writes what waits, and returns whether it did.
+    fn write(&mut self) -> bool
+        ensures server { server_of self.new ≡ server_of self.old }
+        ensures exchanges { exchanges_of self.new ≡ exchanges_of self.old }
+        ensures keeps { keeps self.new ≡ keeps self.old }
+        ensures status { result ≡ false → connection_of self.new ≡ connection_of self.old }
+    {
+        let Some(stream) = &mut self.stream else {
+            return false;
+        };
+        let waiting = self.connection.waiting();
+        if stream.write_all(waiting).is_err() {
+            self.stream = None;
+            return false;
+        }
+        let count = waiting.len();
+        self.connection.wrote(count);
+        true
+    }
+
+    /// Writes requests early, after the one that was sent, as far as they weren't. The connection ends with a write that fails.
     fn send_early(&mut self, requests: &[Vec<u8>])
         ensures server { server_of self.new ≡ server_of self.old }
         ensures exchanges { exchanges_of self.new ≡ exchanges_of self.old }
-        ensures stays { keeps self.new ≡ keeps self.old }
+        ensures keeps { keeps self.new ≡ keeps self.old }
     {
-        let alloc = self.rt.alloc();
-        let (Some(kept), Some(stream)) = (&mut self.kept, &mut self.stream) else {
-            return;
-        };
-        for request in kept.unsent(requests) {
-            if !kept.sends_early(alloc, request) {
+        for request in self.connection.unsent(requests) {
+            if !self.connection.is_open() || self.connection.send_early(request).is_err() {
                 return;
             }
-            if stream.write_all(request).is_err() {
-                self.stream = None;
-                return;
+        }
+        self.write();
+    }
+
+    /// Reads what is there, or waits for it. Returns 0 at the end of the stream, and where the connection fails.
+    fn receive(&mut self, out: &mut [u8]) -> usize
+        ensures few { result ≤ length out.new }
+        ensures server { server_of self.new ≡ server_of self.old }
+        ensures exchanges { exchanges_of self.new ≡ exchanges_of self.old }
+        ensures keeps { keeps self.new ≡ keeps self.old }
+        ensures connection { connection_of self.new ≡ connection_of self.old }
+    {
+        let Some(stream) = &mut self.stream else {
+            self.is_broken = true;
+            return 0;
+        };
+        match read_some(stream, out) {
+            Ok(count) => count,
+            Err(Lost) => {
+                self.is_broken = true;
+                0
             }
         }
     }
 
-    /// Connects, and writes a request.
-    fn connect(&mut self, request: &[u8]) -> Result<(), Lost>
+    /// Notes that the connection brings nothing more. A request that is to be sent once more is, on a new one.
+    fn lose(&mut self)
         ensures server { server_of self.new ≡ server_of self.old }
         ensures exchanges { exchanges_of self.new ≡ exchanges_of self.old }
-        ensures connected { OnOk result (IsConnected self.new) }
-        ensures alone { IsErr result → ¬ IsConnected self.new }
-        ensures fresh { IsFresh self.new }
-        ensures stays { keeps self.new ≡ keeps self.old }
+        ensures keeps { keeps self.new ≡ keeps self.old }
     {
         self.stream = None;
-        if let Some(kept) = &mut self.kept {
-            kept.begin();
+        self.unread.clear();
+        if self.connection.gone() {
+            self.is_broken = false;
+            let _ = self.connect();
         }
-        let mut stream = TcpStream::connect(self.rt, self.server).map_err(|_| Lost)?;
-        // Requests that are sent early aren't held back until the one before is acknowledged. Where that can't be set, they come later.
-        let _ = stream.set_nodelay(true);
-        stream.write_all(request).map_err(|_| Lost)?;
-        self.stream = Some(stream);
-        Ok(())
     }
 
-    /// Sends a request once more, on a new connection, and reads the first bytes of its answer.
-    fn receive_anew(&mut self, request: &[u8], out: &mut [u8]) -> Result<usize, Lost>
+    /// Reads bytes of a head, and what follows it, unless some are there. Returns whether some are.
+    fn fill(&mut self) -> bool
+        ensures server { server_of self.new ≡ server_of self.old }
+        ensures exchanges { exchanges_of self.new ≡ exchanges_of self.old }
+        ensures keeps { keeps self.new ≡ keeps self.old }
+        ensures connection { connection_of self.new ≡ connection_of self.old }
+        ensures some { result ≡ true → 0 < length self.new.unread.items }
+    {
+        if !self.unread.is_empty() {
+            return true;
+        }
+        let mut room = [0u8; HEAD_LIMIT];
+        let count = self.receive(&mut room);
+        if self.unread.extend_from_slice(&room[..count]).is_err() {
+            self.is_broken = true;
+        }
+        !self.unread.is_empty()
+    }
+
+    /// Takes bytes that were read, as many as are of one part of a head.
+    fn take_unread(&mut self)
+        requires opens { (connection_of self.old).is_open ≡ true }
+        requires none { (connection_of self.old).left ≡ None }
+        requires some { 0 < length self.old.unread.items }
+        ensures server { server_of self.new ≡ server_of self.old }
+        ensures exchanges { exchanges_of self.new ≡ exchanges_of self.old }
+        ensures keeps { keeps self.new ≡ keeps self.old }
+    {
+        let Ok(taken) = self.connection.came(&self.unread) else {
+            self.give_up();
+            return;
+        };
+        self.unread.copy_within(taken.count.., 0);
+        self.unread.truncate(self.unread.len() - taken.count);
+        match taken.part {
+            Part::Again => {
+                let _ = self.connect();
+            }
+            Part::Stray | Part::Refused => {
+                self.stream = None;
+                self.unread.clear();
+            }
+            Part::Head | Part::Interim | Part::Begun | Part::Body => {}
+        }
+    }
+
+    /// Reads until the head of the answer is whole, or the connection is over.
+    fn reach_body(&mut self)
+        ensures server { server_of self.new ≡ server_of self.old }
+        ensures exchanges { exchanges_of self.new ≡ exchanges_of self.old }
+        ensures keeps { keeps self.new ≡ keeps self.old }
+    {
+        for _ in 0..u64::MAX {
+            if self.is_over || !self.connection.is_open() || self.connection.left().is_some() {
+                return;
+            }
+            if self.fill() {
+                self.take_unread();
+            } else {
+                self.lose();
+            }
+        }
+    }
+
+    /// Hands on bytes of the head that weren't, and returns how many. A head that isn't whole is handed on where the connection is over.
+    fn hand_head(&mut self, out: &mut [u8]) -> usize
+        ensures few { result ≤ length out.new }
+        ensures server { server_of self.new ≡ server_of self.old }
+        ensures exchanges { exchanges_of self.new ≡ exchanges_of self.old }
+        ensures keeps { keeps self.new ≡ keeps self.old }
+        ensures connection { connection_of self.new ≡ connection_of self.old }
+    {
+        let head = self.connection.head();
+        if self.handed >= head.len() {
+            return 0;
+        }
+        let rest = &head[self.handed..];
+        let count = rest.len().min(out.len());
+        out[..count].copy_from_slice(&rest[..count]);
+        self.handed += count;
+        count
+    }
+
+    /// Reads bytes of the body, of which `left` are to come.
+    fn read_body(&mut self, left: u64, out: &mut [u8]) -> Result<usize, Lost>
+        requires opens { (connection_of self.old).left ≡ Some left }
+        requires more { 0 < left }
         ensures few { IfOk result (λ n. n ≤ length out.new) }
         ensures server { server_of self.new ≡ server_of self.old }
         ensures exchanges { exchanges_of self.new ≡ exchanges_of self.old }
-        ensures noted { IfOk result (λ n. HasCome self.new (take n out.new) ⊎ IsUntold self.new) }
-        ensures stays { keeps self.new ≡ keeps self.old }
+        ensures keeps { keeps self.new ≡ keeps self.old }
     {
-        self.connect(request)?;
-        self.receive_noting(out)
+        let most = left.min(out.len() as u64) as usize;
+        let count = self.receive_unread(&mut out[..most]);
+        if count == 0 {
+            self.lose();
+            return if self.is_broken { Err(Lost) } else { Ok(0) };
+        }
+        match self.connection.came(&out[..count]) {
+            Ok(_) => Ok(count),
+            Err(_) => {
+                self.give_up();
+                Err(Lost)
+            }
+        }
     }
 
-    /// Reads the next bytes of an answer on a connection that is kept. One that is found closed before the first byte of an answer is
-    /// tried once anew.
-    fn receive_next(&mut self, out: &mut [u8]) -> Result<usize, Lost>
-        ensures few { IfOk result (λ n. n ≤ length out.new) }
+    /// Reads bytes that were read with the head, or else from the stream.
+    fn receive_unread(&mut self, out: &mut [u8]) -> usize
+        ensures few { result ≤ length out.new }
         ensures server { server_of self.new ≡ server_of self.old }
         ensures exchanges { exchanges_of self.new ≡ exchanges_of self.old }
-        ensures noted { IfOk result (λ n. Notes self.old self.new (take n out.new)) }
-        ensures stays { keeps self.new ≡ keeps self.old }
+        ensures keeps { keeps self.new ≡ keeps self.old }
+        ensures connection { connection_of self.new ≡ connection_of self.old }
     {
-        let read = self.receive_noting(out);
-        match self.unanswered() {
-            Some(request) => self.receive_anew(&request, out),
-            None => read,
+        if self.unread.is_empty() {
+            return self.receive(out);
+        }
+        let count = self.unread.len().min(out.len());
+        out[..count].copy_from_slice(&self.unread[..count]);
+        self.unread.copy_within(count.., 0);
+        self.unread.truncate(self.unread.len() - count);
+        count
+    }
+
+    /// Ends the answer, which is whole. Bytes after it that nothing asked for end the connection.
+    fn finish(&mut self)
+        requires { (connection_of self.old).left ≡ Some 0 }
+        ensures server { server_of self.new ≡ server_of self.old }
+        ensures exchanges { exchanges_of self.new ≡ exchanges_of self.old }
+        ensures keeps { keeps self.new ≡ keeps self.old }
+    {
+        self.is_over = true;
+        self.connection.finish();
+        if !self.connection.is_open() {
+            self.close();
         }
     }
 }
 
 impl<R: Net<Stream = TcpStream> + AllocGlobal> Pieces for Socket<'_, R> {
-    ghost use Rattle.std.specs.Prelude.{◌≡◌, ◌<◌, ◌≤◌, [], true, IfOk, IsTrue, Ok, OnErr, OnOk, length, take, ⊤};
+    ghost use Rattle.std.specs.Prelude.{◌≡◌, ◌<◌, ◌≤◌, [], true, IfOk, IsTrue, OnErr, OnOk, length, ⊤};
     ghost use Rattle.cog_client.specs.Pieces.{BringsOf};
     ghost use Rattle.cog_client.specs.Transport.{AnswersOn, OrLost, SpeaksOn};
-    ghost use Rattle.client_sockets.specs.Sockets.{exchanges_of, keeps, IsOver, Nothing, Notes};
+    ghost use Rattle.client_sockets.specs.Sockets.{exchanges_of, keeps, Nothing};
 
     ghost speaks_for = { λ _ _. Nothing };
 
@@ -319,14 +433,9 @@ impl<R: Net<Stream = TcpStream> + AllocGlobal> Pieces for Socket<'_, R> {
 
     fn next(&mut self, out: &mut [u8]) -> Result<usize, Lost>
         requires { 0 < length out.old }
-
-        // Behind an answer that is whole, or isn't waited for, nothing is told.
-        ensures over { IsOver self.old → result ≡ Ok 0 }
-        // What is told of an answer until then is noted, so that its end is found.
-        ensures noted { ¬ IsOver self.old → IfOk result (λ n. Notes self.old self.new (take n out.new)) }
         ensures stays { keeps self.new ≡ keeps self.old }
 
-        // So it keeps the trait's law, as a source that speaks for no file and tells nothing of its losses.
+        // It keeps the trait's law, as a source that speaks for no file and tells nothing of its losses.
         ensures fits { IfOk result (λ n. n ≤ length out.new) }
         ensures brings { IfOk result (λ n. BringsOf (λ _. Nothing) [] out.new n []) }
         ensures told { OnErr result (IsTrue true) }
@@ -335,10 +444,20 @@ impl<R: Net<Stream = TcpStream> + AllocGlobal> Pieces for Socket<'_, R> {
         ensures speaks { SpeaksOn (λ _. Nothing) (λ _. Nothing) }
         ensures counted { exchanges_of self.new ≡ exchanges_of self.old }
     {
-        if self.is_over() {
-            return Ok(0);
+        self.reach_body();
+        let handed = self.hand_head(out);
+        if handed > 0 {
+            return Ok(handed);
         }
-        self.receive_next(out)
+        match self.connection.left() {
+            Some(0) => {
+                self.finish();
+                Ok(0)
+            }
+            Some(left) => self.read_body(left, out),
+            None if self.is_broken => Err(Lost),
+            None => Ok(0),
+        }
     }
 
     fn foresee(&mut self, requests: &[Vec<u8>]) {
