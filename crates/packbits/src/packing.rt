@@ -59,8 +59,7 @@ fn push_packet(packed: &mut Vec<u8>, bytes: &[u8]) -> Result<usize, Memory>
     Ok(len)
 }
 
-/// Packets that stand for a row, which isn't empty: equal bytes as runs, others as they are. An `Err` comes where no memory was
-/// left.
+/// Returns packets that stand for a row, which isn't empty. Which packets they are is left open. Fails where no memory was left.
 ///
 /// ```
 /// assert_eq!(pack_row(alloc, &[7, 7, 7, 1, 2])?.as_slice(), [0xfe, 7, 0x01, 1, 2]);

@@ -128,6 +128,45 @@ impl Cache {
         copy(&self.blocks, first, out);
     }
 
+    /// Reads the bytes from `first` on into `out`, where all blocks that they touch are there. Fails with the first unbroken run
+    /// of missing blocks otherwise, and then leaves `out` as it was. In both cases the blocks that are there come to the front,
+    /// in ascending order.
+    ///
+    /// `file_length` is the length of the file in bytes, and the range lies in it.
+    ///
+    /// ```
+    /// let mut out = [0; 10];
+    /// assert_eq!(cache.read_into(378, 0, &mut out), Err(Missing { first: 0, last: 377 }));
+    /// cache.put(378, 0, &file, Span { first: 0, last: 377 })?;
+    /// assert_eq!(cache.read_into(378, 0, &mut out), Ok(()));
+    /// assert_eq!(out, file[..10]);
+    /// ```
+    pub fn read_into(&mut self, file_length: u64, first: u64, out: &mut [u8]) -> Result<(), Missing>
+        requires some { 0 < length out.old }
+        requires within { first + length out.old ≤ file_length }
+        ensures sound { IsSound self.old }
+        ensures entries { self.new ≡ record self.old {
+          entries = brought (range_with_len (first_block first) (blocks first (length out.old))) self.old.entries;
+        } }
+        ensures exact { MatchResult result
+            (λ _. AreThere (numbers self.old.entries) (first_block first) (blocks first (length out.old)))
+            (λ m. IsFirstGap self.old file_length first (length out.old) m) }
+        ensures read { OnOk result (out.new ≡ bytes_at self.new first (length out.old)) }
+        ensures slice { OnOk result ((f : List ℕ) → first + length out.old ≤ length f → Holds f self.old →
+            out.new ≡ slice_range f first (first + length out.old)) }
+        ensures missed { OnErr result (out.new ≡ out.old) }
+
+        // What follows of the entries, as for `touch`.
+        ensures kept { (k : ℕ) → block_at k self.new.entries ≡ block_at k self.old.entries }
+        ensures same { (k : ℕ) → has k (numbers self.new.entries) ≡ has k (numbers self.old.entries) }
+        ensures holds { (f : List ℕ) → Holds f self.old → Holds f self.new }
+        ensures led { IsLed (numbers self.new.entries) (first_block first) (blocks first (length out.old)) }
+    {
+        self.touch(file_length, first, out.len())?;
+        self.copy_at(first, out);
+        Ok(())
+    }
+
     /// The bytes from `first` on that stand in one block, at most `len`: none where that block isn't there.
     #[tactic(auto, unfolding(crate::specs::Cache::bytes_at))]
     pub fn piece_at(&self, first: u64, len: usize) -> &[u8]

@@ -1,7 +1,7 @@
 -- Tiles that are kept unpacked.
-use Rattle.std.specs.Prelude.{◌≡◌, ◌*◌, ◌≤◌, ◌&&◌, nat_eq, cond, Bool, true, ℕ, List, [], length, Option, Some, None}
-use Rattle.std.specs.List.{All, sum_by}
-use Rattle.std.specs.Map.{lookup}
+use Rattle.std.specs.Prelude.{◌≡◌, ◌-◌, ◌*◌, ◌/◌, ◌≤◌, ◌&&◌, nat_eq, cond, Bool, true, ℕ, List, [], ◌∷◌, length, take, Option, Some, None}
+use Rattle.std.specs.List.{All, filter, sum_by}
+use Rattle.std.specs.Map.{lookup, remove_entry}
 use Rattle.std.specs.Option.{option_and_then}
 use Rattle.lru.specs.LruCache.{LruCache}
 use Rattle.extents.specs.Extent.{bytes_in}
@@ -44,9 +44,18 @@ size_of_tile t = length t.1.plain.items
 abbrev pub size_of_tiles : List KeptTile → ℕ
 size_of_tiles tiles = sum_by size_of_tile tiles
 
--- the store has tiles of `size` bytes alone, and no more of them than have `most` bytes together
+-- those of so many bytes
+abbrev pub tiles_of_size : ℕ → List KeptTile → List KeptTile
+tiles_of_size size tiles = filter (λ t. nat_eq (size_of_tile t) size) tiles
+
+-- a tile in front of those of its size; where no more have room, the one that was used longest ago isn't among them
+abbrev pub kept_with : KeptTile → KeptTiles → List KeptTile
+kept_with t k = t ∷ remove_entry (nat_eq t.0) (take (k.most / size_of_tile t - 1) (tiles_of_size (size_of_tile t) k.tiles))
+
+-- the store has tiles of `size` bytes alone, and as many of them as have `most` bytes together
 pub record IsStore (most size : ℕ) (store : LruCache ℕ Tile) : Type 0 where
   pub few : store.cap * size ≤ most
+  pub room : store.cap ≡ most / size
   pub alike : All (λ t. size_of_tile t ≡ size) store.entries
 
 -- those bytes of the file stand for the tile

@@ -18,6 +18,8 @@ mod window_builder;
 
 pub use arrays::Arrays;
 pub use asked::{Rectangle, rect};
+/// A window of a level, by its shorter name.
+pub use asked::Rectangle as Rect;
 pub use bytes::{Bytes, Part, Slice};
 pub use canvas::Canvas;
 pub use laws::{law_all_are_painted, law_tiles_cover};

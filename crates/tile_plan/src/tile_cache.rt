@@ -1,10 +1,11 @@
 //! Tiles that were unpacked, kept from one window to the next.
-ghost use Rattle.std.specs.Prelude.{◌≡◌, ◌*◌, ◌≤◌, ℕ, List, IfOk, IfSome, IsSome, OnOk, slice_get, Some, length};
+ghost use Rattle.std.specs.Prelude.{◌≡◌, ◌-◌, ◌*◌, ◌/◌, ◌<◌, ◌≤◌, ℕ, List, ◌∷◌, IfNone, IfOk, IfSome, IsSome, OnOk, slice_get, Some, length, nat_eq, take};
 ghost use Rattle.std.specs.List.{All};
+ghost use Rattle.std.specs.Map.{remove_entry};
 ghost use Rattle.extents.specs.Extent.{bytes_in};
 ghost use Rattle.tiff_dir.specs.Window.{PacksBy};
 ghost use Rattle.std.specs.NonZero.{non_zero_usize_get};
-ghost use Rattle.tile_plan.specs.TileCache.{tiles_in, IsStore, IsTileOf};
+ghost use Rattle.tile_plan.specs.TileCache.{tiles_in, tiles_of_size, IsStore, IsTileOf};
 
 use extents::Memory;
 use lru::LruCache;
@@ -42,6 +43,8 @@ impl Tile {
 /// Room for a tile of so many bytes: that of the tile that was used longest ago, where no more may be kept, and else new.
 fn room_for(tiles: &mut LruCache<u32, Tile>, alloc: Global, size: usize) -> Result<Vec<u8>, Memory>
     ensures size { IfOk result (λ room. length room.items ≡ size) }
+    ensures tiles { tiles.new.entries ≡ take (tiles.old.cap - 1) tiles.old.entries }
+    ensures cap { tiles.new.cap ≡ tiles.old.cap }
     ensures of { (f : List ℕ) → All (IsTileOf f) tiles.old.entries → All (IsTileOf f) tiles.new.entries }
     ensures store { (most each : ℕ) → IsStore most each tiles.old → IsStore most each tiles.new }
 {
@@ -55,6 +58,18 @@ fn room_for(tiles: &mut LruCache<u32, Tile>, alloc: Global, size: usize) -> Resu
     Ok(vec![in alloc; 0u8; size]?)
 }
 
+/// Returns how many tiles of `size` bytes have `most` bytes together at most, where one has.
+fn count_in(most: usize, size: usize) -> Option<NonZeroUsize>
+    ensures count { IfSome result (λ count. non_zero_usize_get count ≡ most / size) }
+    ensures few { IfSome result (λ count. non_zero_usize_get count * size ≤ most) }
+    ensures none { IfNone result (0 < size → size ≤ most → ⊥) }
+{
+    if size == 0 {
+        return None;
+    }
+    NonZeroUsize::new(most / size)
+}
+
 /// Has a store for so many tiles of `size` bytes, in the place of one for those of another size, which `of` tells.
 /// After a refusal, what was there stays.
 fn fit(
@@ -64,8 +79,10 @@ fn fit(
     size: usize,
     count: NonZeroUsize,
 ) -> Result<(), Memory>
-    ensures store { (most : ℕ) → non_zero_usize_get count * size ≤ most → IfSome tiles.old (IsStore most of.old)
-        → IfSome tiles.new (IsStore most of.new) }
+    ensures store { (most : ℕ) → non_zero_usize_get count * size ≤ most → non_zero_usize_get count ≡ most / size
+        → IfSome tiles.old (IsStore most of.old) → IfSome tiles.new (IsStore most of.new) }
+    ensures kept { (most : ℕ) → IfSome tiles.old (IsStore most of.old)
+        → OnOk result (tiles_in tiles.new ≡ tiles_of_size size (tiles_in tiles.old)) }
     ensures fits { OnOk result ((of.new ≡ size) × IsSome tiles.new) }
     ensures of { (f : List ℕ) → All (IsTileOf f) (tiles_in tiles.old) → All (IsTileOf f) (tiles_in tiles.new) }
 {
@@ -89,6 +106,8 @@ fn put(
 ) -> Result<(), Memory>
     ensures front { OnOk result (slice_get tiles.new.entries 0
         ≡ Some (first, record { codec = codec; len = len; row = row; plain = plain.old })) }
+    ensures others { OnOk result (tiles.new.entries ≡ (first, record { codec = codec; len = len; row = row; plain = plain.old })
+        ∷ remove_entry (nat_eq first) (take (tiles.old.cap - 1) tiles.old.entries)) }
     ensures of { (f : List ℕ) → All (IsTileOf f) tiles.old.entries
         → PacksBy codec row (bytes_in f (record { first = first; len = len })) plain.old.items
         → All (IsTileOf f) tiles.new.entries }
@@ -147,7 +166,7 @@ impl TileCache {
     ghost use Rattle.lru.specs.LruCache.{promoted};
     ghost use Rattle.extents.specs.Extent.{bytes_in};
     ghost use Rattle.tiff_dir.specs.Window.{PacksBy};
-    ghost use Rattle.tile_plan.specs.TileCache.{size_of_tiles, plain_at, AreTilesOf};
+    ghost use Rattle.tile_plan.specs.TileCache.{size_of_tiles, kept_with, plain_at, AreTilesOf};
 
     /// None yet, of at most so many bytes in all. It takes no memory.
     pub fn new(alloc: Global, most: usize) -> TileCache
@@ -240,6 +259,8 @@ impl TileCache {
     ) -> Result<(), Memory>
         ensures front { OnOk result (0 < length plain.old.items → length plain.old.items ≤ self.old.most
             → slice_get self.new.tiles 0 ≡ Some (first, record { codec = codec; len = len; row = row; plain = plain.old })) }
+        ensures others { OnOk result (0 < length plain.old.items → length plain.old.items ≤ self.old.most
+            → self.new.tiles ≡ kept_with (first, record { codec = codec; len = len; row = row; plain = plain.old }) self.old) }
         ensures of { (f : List ℕ) → AreTilesOf f self.old
             → PacksBy codec row (bytes_in f (record { first = first; len = len })) plain.old.items
             → AreTilesOf f self.new }
@@ -247,7 +268,7 @@ impl TileCache {
         ensures size { length plain.new.items ≡ length plain.old.items }
     {
         let size = plain.len();
-        let Some(count) = NonZeroUsize::new(self.most.checked_div(size).unwrap_or(0)) else {
+        let Some(count) = count_in(self.most, size) else {
             return Ok(());
         };
         fit(&mut self.tiles, &mut self.size, self.alloc, size, count)?;
