@@ -39,8 +39,16 @@ impl Model for ClientConnection {
 
     ghost Value = { Status };
 
-    ghost view = { λ c. record { is_open = c.is_open; kept = c.kept; waits = c.waits.items; out = texts c.out.items; head = c.head.items;
-        left = c.left; closes = c.closes; interims = c.interims } };
+    ghost view = { λ c. record {
+      is_open = c.is_open;
+      kept = c.kept;
+      waits = c.waits.items;
+      out = texts c.out.items;
+      head = c.head.items;
+      left = c.left;
+      closes = c.closes;
+      interims = c.interims;
+    } };
 
     ghost invariant = { λ c. IsSound c.is_open c.head.items c.left };
 }

@@ -1,4 +1,3 @@
 pub mod TakeLemmas
 pub mod FetchLemmas
-pub mod EndLemmas
 pub mod ReportLemmas

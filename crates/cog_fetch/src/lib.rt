@@ -2,13 +2,11 @@
 //! report stands.
 #![tactic(auto)]
 
-mod answer_end;
 mod exchange;
 mod fetching;
 mod laws;
 mod taking;
 
-pub use answer_end::{AnswerEnd, Lacks};
 pub use fetching::{exchange_pieces, fetch, fetch_pieces};
 pub use laws::law_answer_limit_is;
 pub use taking::{ANSWER_LIMIT, PIECE_ROOM};

@@ -10,8 +10,12 @@ take_interim-requires-clause-reads c =
 
 pub take_interim-requires-clause-whole : goal.take_interim-requires-clause-whole
 take_interim-requires-clause-whole c =
-    omega (arith, ap length c.truncate.ensures.items, length-take c.args.frame.size c.args.head.items,
-    c.law_frames_grow.ensures.there c.args.head.items c.args.frame c.requires.reads)
+    omega (
+      arith,
+      ap length c.truncate.ensures.items,
+      length-take c.args.frame.size c.args.head.items,
+      c.law_frames_grow.ensures.there c.args.head.items c.args.frame c.requires.reads,
+    )
 
 pub returns : goal.returns
 returns c =

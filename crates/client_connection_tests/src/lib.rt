@@ -1,0 +1,5 @@
+//! Tests of a client's end of its connections, in memory.
+#![tactic(auto)]
+
+#[cfg(test)]
+mod tests;

@@ -1,6 +1,0 @@
-use Rattle.std.proofs.Common.{refl}
-use Rattle.cog_fetch.proofs.EndLemmas.{nothing_came}
-use Rattle.cog_fetch.proofs.answer_end.AnswerEnd.begin.Goals as goal
-
-pub returns-clause-came : goal.returns-clause-came
-returns-clause-came c = nothing_came c.law_heads_grow.ensures _ _ c.read_head.ensures.reads c.lacks_by-self.ensures c.clear.ensures.items refl
