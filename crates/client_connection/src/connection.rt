@@ -1,5 +1,5 @@
 //! A client's end of its connections.
-ghost use Rattle.std.specs.Prelude.{◌≡◌, ◌<◌, ◌≤◌, ◌∷◌, ◌++◌, ◌⊎◌, ℕ, [], false, true, None, Some, Ok, Err, IfOk, OnErr, OnOk, drop, length, take};
+ghost use Rattle.std.specs.Prelude.{◌≡◌, ◌<◌, ◌≤◌, ◌∷◌, ◌++◌, ◌⊎◌, ℕ, [], false, true, None, Some, Ok, Err, IfOk, IsSome, OnErr, OnOk, drop, length, take};
 ghost use Rattle.http_range.specs.declared.frame.Frame.{Frame};
 ghost use Rattle.http_range.specs.declared.reading.Why.TheVariants.{Head};
 ghost use Rattle.http_range.specs.Frame.{is_interim, ReadsFrame};
@@ -113,7 +113,8 @@ impl ClientConnection {
 
     /// Returns the number of bytes that are to come of the body, or `None` while the head isn't whole.
     pub fn left(&self) -> Option<u64>
-        ensures { result ≡ self.now.left }
+        ensures is { result ≡ self.now.left }
+        ensures opens { IsSome result → self.now.is_open ≡ true }
     {
         self.left
     }

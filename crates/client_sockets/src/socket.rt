@@ -359,7 +359,8 @@ impl<'r, R: Net<Stream = TcpStream> + AllocGlobal> Socket<'r, R> {
 
     /// Reads bytes of the body, of which `left` are to come.
     fn read_body(&mut self, left: u64, out: &mut [u8]) -> Result<usize, Lost>
-        requires opens { (connection_of self.old).left ≡ Some left }
+        requires opens { (connection_of self.old).is_open ≡ true }
+        requires is { (connection_of self.old).left ≡ Some left }
         requires more { 0 < left }
         ensures few { IfOk result (λ n. n ≤ length out.new) }
         ensures server { server_of self.new ≡ server_of self.old }
