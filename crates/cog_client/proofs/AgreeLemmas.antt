@@ -63,6 +63,7 @@ fed_sound f mid c same room some knows =
       alone = subst (λ o. IsAlone o (blocks_of c) mid.report (feed_of c)) (sym is) tt;
       reading = k.sound.reading;
       tiles = subst (λ o. IfSome o (MayKeep (blocks_of c))) (sym is) ((subst (λ o. IfSome o (MayKeep mid.cache)) is k.sound.tiles) ∙ ap (λ (n : ℕ). n * BLOCK_SIZE) (sym room));
+      buffer = k.sound.buffer;
       standing = k.sound.standing;
       few = k.sound.few;
     })

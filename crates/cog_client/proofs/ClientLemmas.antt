@@ -1,11 +1,12 @@
 -- What the steps of a client keep.
-use Rattle.std.proofs.Common.{◌≡◌, ℕ, ◌*◌, List, [], length, Option, Some, None, refl, sym, ap, ◌∙◌, subst}
+use Rattle.std.proofs.Common.{◌≡◌, ℕ, ◌*◌, ◌≤◌, List, [], length, Option, Some, None, refl, sym, ap, ◌∙◌, subst}
 use Rattle.std.proofs.lemmas.Bool.{false≢true}
 use Rattle.std.specs.Prelude.{IfSome, IsSome, IsSomeAnd, is_some, if◌then◌else◌}
+use Rattle.std.specs.Global.{Vec}
 use Rattle.std.specs.Option.{option_map, option_map_or}
 use Rattle.tiff_dir.specs.declared.query.Query.{Query}
 use Rattle.extents.specs.declared.span.Span.{Span}
-use Rattle.extents.specs.declared.limits.TheConstants.{BLOCK_SIZE}
+use Rattle.extents.specs.declared.limits.TheConstants.{BLOCK_SIZE, MAX_RANGE_BYTES}
 use Rattle.tiff_dir.specs.Needs.{IsEndOf}
 use Rattle.tiff_dir.specs.Query.{needs}
 use Rattle.http_range.specs.Book.{Book}
@@ -22,7 +23,7 @@ use Rattle.cog_client.specs.declared.revision_reader.RevisionReader.{RevisionRea
 use Rattle.cog_client.specs.Case.{Revision}
 use Rattle.cog_client.specs.Take.{emptied, stored_front}
 use Rattle.cog_client.specs.AnswerPhase.{Feed, nothing_fed}
-use Rattle.cog_client.specs.Client.{ClientAgrees, ClientState, IsAlone, IsClient, IsFew, IsReadingOf, IsReportOf, Knows, KnowsBy, KnowsOne, MayKeep, asked_of, blocks_of, feed_of, host_of, how_of, name_of, query_of, report_of, revision_in, revision_of, tag_of, to_come, unread}
+use Rattle.cog_client.specs.Client.{ClientAgrees, ClientState, IsAlone, IsClient, IsFew, IsReadingOf, IsReportOf, KeepsOneRange, Knows, KnowsBy, KnowsOne, MayKeep, asked_of, blocks_of, feed_of, host_of, how_of, name_of, query_of, report_of, revision_in, revision_of, tag_of, to_come, unread}
 use Rattle.cog_client.specs.Calls.{SameClient}
 use Rattle.cog_client.specs.Keeps.{GoesOnKeeping, OpensKeeping, StaysOf}
 use Rattle.cog_reader.specs.Going as going
@@ -109,14 +110,15 @@ module _ (e e' : Feed) (how : RequestOptions) (h n : List ℕ) (q : Option Query
 module _ (e : Feed) (how : RequestOptions) (h n : List ℕ) (q : Option Query) (a : Option Span) (s : RevisionReader) (b : Blocks) (r : Option Report) where
   -- ---- going on
 
-  pub gone_sound : (s' : RevisionReader) (new : Blocks) → s'.complete ≡ s.complete → IsClient (known e how h n q a (Some s) b r)
+  pub gone_sound : (s' : RevisionReader) (new : Blocks) → s'.complete ≡ s.complete → KeepsOneRange s' → IsClient (known e how h n q a (Some s) b r)
       → going.ReaderGoesOn (work s.reader b) (work s'.reader new) → IsClient (known e how h n q a (Some s') new r)
-  gone_sound s' new complete c goes = record {
+  gone_sound s' new complete buffer c goes = record {
     hosted = c.hosted;
     named = c.named;
     alone = tt;
     reading = (complete ∙ c.reading.0 ∙ sym goes.file_length, goes.query ∙ c.reading.1);
     tiles = goes.most ∙ c.tiles ∙ ap (λ (n : ℕ). n * BLOCK_SIZE) (sym goes.blocks.capacity);
+    buffer = buffer;
     standing = c.standing;
     few = c.few;
   }
@@ -129,16 +131,16 @@ module _ (e : Feed) (how : RequestOptions) (h n : List ℕ) (q : Option Query) (
   reading_of : IsClient (known e how h n q a (Some s) b r) → r ≡ None → reader.query_of s.reader ≡ q
   reading_of c quiet = c.reading.1 ∙ ap (λ o. if is_some o then None else q) quiet
 
-  pub gone : (s' : RevisionReader) (new : Blocks) → r ≡ None → s'.tag ≡ s.tag → s'.complete ≡ s.complete → IsClient (known e how h n q a (Some s) b r)
+  pub gone : (s' : RevisionReader) (new : Blocks) → r ≡ None → s'.tag ≡ s.tag → s'.complete ≡ s.complete → KeepsOneRange s' → IsClient (known e how h n q a (Some s) b r)
       → going.ReaderGoesOn (work s.reader b) (work s'.reader new) → GoesOnKeeping (known e how h n q a (Some s) b r) (known e how h n q a (Some s') new r)
   unfolding how_of host_of name_of query_of revision_of blocks_of to_come unread Knows
-  gone s' new quiet tag complete c goes =
+  gone s' new quiet tag complete buffer c goes =
       goes_by (known e how h n q a (Some s) b r) (known e how h n q a (Some s') new r) (record { host = refl; name = refl; query = refl; how = refl })
       (ap Some (ap (λ t. record { tag = t; complete = s'.complete }) tag ∙ ap (λ l. record { tag = s.tag; complete = l }) complete)) goes.blocks
       (λ f knows.
       let w = goes.file f knows.reader knows.blocks in
       record {
-        knows = record { reader = w.reader; blocks = w.cache; report = gone_report f s' r tag knows.report; sound = gone_sound s' new complete c goes };
+        knows = record { reader = w.reader; blocks = w.cache; report = gone_report f s' r tag knows.report; sound = gone_sound s' new complete buffer c goes };
         come = w.come;
         held = λ asked x is one. w.held asked x (reading_of c quiet ∙ is) one;
       })
@@ -153,6 +155,7 @@ module _ (e : Feed) (how : RequestOptions) (h n : List ℕ) (q : Query) (a : Opt
     alone = tt;
     reading = (d.complete ∙ c.reading.0 ∙ sym d.length, d.unasked refl);
     tiles = ap (λ (t : KeptTiles). t.most) d.tiles ∙ c.tiles;
+    buffer = subst (λ (v : Vec ℕ). length v.items ≤ MAX_RANGE_BYTES) (sym d.buffer) c.buffer;
     standing = (ap Some d.report.0, refl);
     few = tt;
   }
@@ -224,6 +227,7 @@ module _ (e e' : Feed) (dropped : e' ≡ nothing_fed) (how : RequestOptions) (h 
     alone = tt;
     reading = (c.reading.0 ∙ sym complete, asks);
     tiles = ap (λ (t : KeptTiles). t.most) tiles ∙ c.tiles;
+    buffer = c.buffer;
     standing = tt;
     few = tt;
   }
@@ -249,10 +253,10 @@ module _ (e e' : Feed) (dropped : e' ≡ nothing_fed) (how : RequestOptions) (h 
 
 module _ (e : Feed) (how : RequestOptions) (h n : List ℕ) (q : Option Query) (a asked : Option Span) (before : Option RevisionReader) (s : RevisionReader) (b new : Blocks) where
   pub adopted : (p : Revision) → s.tag ≡ p.tag → s.complete ≡ p.complete → new ≡ emptied b → ((f : List ℕ) → Holds f new)
-      → ((f : List ℕ) → length f ≡ p.complete → reader.ReaderAgrees s.reader f) → reader.file_length_of s.reader ≡ p.complete → reader.query_of s.reader ≡ q → MayKeep new s
+      → ((f : List ℕ) → length f ≡ p.complete → reader.ReaderAgrees s.reader f) → reader.file_length_of s.reader ≡ p.complete → reader.query_of s.reader ≡ q → MayKeep new s → KeepsOneRange s
       → IfSome asked IsFew → IsClient (known e how h n q a before b None) → Adopts p asked (known e how h n q a before b None) (known e how h n q asked (Some s) new None)
   unfolding how_of host_of name_of query_of asked_of revision_of report_of blocks_of Knows
-  adopted p tag complete empty holds agrees size query tiles few c = record {
+  adopted p tag complete empty holds agrees size query tiles buffer few c = record {
     same = record { host = refl; name = refl; query = refl; how = refl };
     asks = refl;
     revision = ap Some (ap (λ t. record { tag = t; complete = s.complete }) tag ∙ ap (λ l. record { tag = p.tag; complete = l }) complete);
@@ -262,7 +266,7 @@ module _ (e : Feed) (how : RequestOptions) (h n : List ℕ) (q : Option Query) (
       reader = agrees f long;
       blocks = holds f;
       report = tt;
-      sound = record { hosted = c.hosted; named = c.named; alone = tt; reading = (complete ∙ sym size, query); tiles = tiles; standing = tt; few = few };
+      sound = record { hosted = c.hosted; named = c.named; alone = tt; reading = (complete ∙ sym size, query); tiles = tiles; buffer = buffer; standing = tt; few = few };
     };
   }
 
@@ -308,6 +312,7 @@ refed c e f knows = at c.source refl knows
         alone = subst (λ o. IsAlone o c.cache c.report e) (sym is) tt;
         reading = k.sound.reading;
         tiles = k.sound.tiles;
+        buffer = k.sound.buffer;
         standing = k.sound.standing;
         few = k.sound.few;
       };
@@ -316,7 +321,7 @@ refed c e f knows = at c.source refl knows
 -- nor is how the client asks
 
 pub rehow_sound : (c : ClientState) (how : RequestOptions) → IsClient c → IsClient (record c { how = how })
-rehow_sound c how s = record { hosted = s.hosted; named = s.named; alone = s.alone; reading = s.reading; tiles = s.tiles; standing = s.standing; few = s.few }
+rehow_sound c how s = record { hosted = s.hosted; named = s.named; alone = s.alone; reading = s.reading; tiles = s.tiles; buffer = s.buffer; standing = s.standing; few = s.few }
 
 pub rehowed : (c : ClientState) (how : RequestOptions) (f : List ℕ) → Knows f c → Knows f (record c { how = how })
 unfolding Knows

@@ -2,6 +2,7 @@ pub mod GoingLemmas
 pub mod ClientLemmas
 pub mod AcceptLemmas
 pub mod RequestLemmas
+pub mod LengthLemmas
 pub mod DeliverLemmas
 pub mod ProgressLemmas
 pub mod OwnFrontLemmas

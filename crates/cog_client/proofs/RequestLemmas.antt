@@ -58,7 +58,7 @@ alone_still (Some s) b r e e' dropped alone = tt
 
 module _ (e e' : Feed) (dropped : e' ≡ nothing_fed) (how : RequestOptions) (h n : List ℕ) (q : Option Query) (a : Option Span) (s : Option RevisionReader) (b : Blocks) (r : Option Report) where
   unasked_sound : IsClient (known e how h n q a s b r) → IsClient (known e' how h n q None s b r)
-  unasked_sound c = record { hosted = c.hosted; named = c.named; alone = alone_still s b r e e' dropped c.alone; reading = c.reading; tiles = c.tiles; standing = standing_still q a r c.standing; few = tt }
+  unasked_sound c = record { hosted = c.hosted; named = c.named; alone = alone_still s b r e e' dropped c.alone; reading = c.reading; tiles = c.tiles; buffer = c.buffer; standing = standing_still q a r c.standing; few = tt }
 
   pub unasked : IsClient (known e how h n q a s b r) → GoesOnKeeping (known e how h n q a s b r) (known e' how h n q None s b r)
   unasked c = reasked e e' how h n q a None b r s (unasked_sound c)
@@ -133,6 +133,7 @@ module _ (e : Feed) (how : RequestOptions) (h n : List ℕ) (q : Option Query) (
     alone = c.alone;
     reading = c.reading;
     tiles = c.tiles;
+    buffer = c.buffer;
     standing = subst (λ o. IfSome o (IsStanding q (Some span))) (sym none) tt;
     few = few_asked mid (revision_of mid) (ahead_of mid) span asks;
   }
@@ -197,6 +198,7 @@ cleared e e' how h n q a s b r dropped c = record {
   alone = alone_still s b r e e' dropped c.alone;
   reading = c.reading;
   tiles = c.tiles;
+  buffer = c.buffer;
   standing = c.standing;
   few = c.few;
 }

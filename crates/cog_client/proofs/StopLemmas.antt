@@ -177,7 +177,7 @@ module _ (law : FrontsAreRead) (lengths : (r : ReaderState) (f : List ℕ) → r
 pub stopped_sound : (e e' : Feed) (how : RequestOptions) (h n : List ℕ) (q : Option Query) (a : Option Span) (s : Option RevisionReader) (b b' : Blocks) (r : Option Report) (bytes : List ℕ)
     → IsClient (known e how h n q a s b r) → b'.capacity ≡ b.capacity → StopsInBytes e b bytes b' → IsClient (known e' how h n q a s b' r)
 stopped_sound e e' how h n q a s b b' r bytes c room stops =
-    record { hosted = c.hosted; named = c.named; alone = at s e c.alone stops; reading = c.reading; tiles = kept s c.tiles; standing = c.standing; few = c.few }
+    record { hosted = c.hosted; named = c.named; alone = at s e c.alone stops; reading = c.reading; tiles = kept s c.tiles; buffer = c.buffer; standing = c.standing; few = c.few }
   where
     kept : (o : Option RevisionReader) → IfSome o (MayKeep b) → IfSome o (MayKeep b')
     kept None k = tt

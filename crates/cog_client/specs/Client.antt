@@ -1,7 +1,7 @@
 -- The words for what callers know of a client, and when what it holds is of a published file.
 use Rattle.cog_reader.specs.declared.ahead.TheConstants.{MAX_BLOCKS}
 use Rattle.cog_reader.specs.Going.{CachedReader, work}
-use Rattle.std.specs.Prelude.{◌≡◌, ℕ, ◌+◌, ◌*◌, ◌<◌, Bool, not, ◌||◌, nat_lt, IsTrue, if◌then◌else◌, List, [], length, Option, Some, None, IfSome, IsSomeAnd, is_some, ⊤}
+use Rattle.std.specs.Prelude.{◌≡◌, ℕ, ◌+◌, ◌*◌, ◌<◌, ◌≤◌, Bool, not, ◌||◌, nat_lt, IsTrue, if◌then◌else◌, List, [], length, Option, Some, None, IfSome, IsSomeAnd, is_some, ⊤}
 use Rattle.std.specs.Option.{option_map, option_map_or}
 use Rattle.tiff_dir.specs.declared.query.Query.{Query}
 use Rattle.extents.specs.declared.span.Span.{Span}
@@ -9,7 +9,7 @@ use Rattle.extents.specs.Extent.{Extent}
 use Rattle.http_range.specs.Names.{is_host, is_name}
 use Rattle.http_range.specs.Book.{Publication, Book, In}
 use Rattle.range_cache.specs.declared.cache.TheConstants.{MAX_CAPACITY, MIN_CAPACITY}
-use Rattle.extents.specs.declared.limits.TheConstants.{BLOCK_SIZE}
+use Rattle.extents.specs.declared.limits.TheConstants.{BLOCK_SIZE, MAX_RANGE_BYTES}
 use Rattle.range_cache.specs.Cache.{Blocks, Holds}
 use Rattle.cog_reader.specs.Outcome.{IsTrueOf}
 use Rattle.cog_reader.specs.Reader as reader
@@ -113,6 +113,10 @@ reader_of c = option_map (λ (s : RevisionReader). work s.reader c.cache) c.sour
 unfoldable pub tiles_of : ClientState → List KeptTile
 tiles_of c = option_map_or (λ (s : RevisionReader). (reader.tiles_of s.reader).tiles) c.source []
 
+-- How many bytes of the file stand in one piece for the reader, beside blocks and tiles; none without a revision.
+unfoldable pub buffer_of : ClientState → ℕ
+buffer_of c = option_map_or (λ (s : RevisionReader). length s.buffer.items) c.source 0
+
 -- The ranges of the file that the query still needs, none without a revision.
 unfoldable pub to_come : ClientState → List ℕ → List Extent
 to_come c f = option_map_or (λ (s : RevisionReader). reader.to_come s.reader f) c.source []
@@ -152,6 +156,10 @@ IsStanding q a r = (q ≡ Some r.query) × (a ≡ None)
 abbrev pub MayKeep : Blocks → RevisionReader → Type 0
 MayKeep b s = (reader.tiles_of s.reader).most ≡ b.capacity * BLOCK_SIZE
 
+-- what stands in one piece for the reader is no longer than a range
+abbrev pub KeepsOneRange : RevisionReader → Type 0
+KeepsOneRange s = length s.buffer.items ≤ MAX_RANGE_BYTES
+
 -- no more than 65 blocks are asked for
 abbrev pub IsFew : Span → Type 0
 IsFew s = s.last < s.first + MAX_BLOCKS * BLOCK_SIZE
@@ -162,6 +170,7 @@ pub record IsClient (c : ClientState) : Type 0 where
   pub alone : IsAlone c.source c.cache c.report c.feed
   pub reading : IfSome c.source (IsReadingOf c.query c.report)
   pub tiles : IfSome c.source (MayKeep c.cache)
+  pub buffer : IfSome c.source KeepsOneRange
   pub standing : IfSome c.report (IsStanding c.query c.asked)
   pub few : IfSome c.asked IsFew
 

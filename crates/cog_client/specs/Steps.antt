@@ -26,6 +26,7 @@ pub record Concludes (query : Query) (old : RevisionReader) (r : Option Report) 
   pub complete : new.complete ≡ old.complete
   pub length : reader.file_length_of new.reader ≡ reader.file_length_of old.reader
   pub tiles : reader.tiles_of new.reader ≡ reader.tiles_of old.reader
+  pub buffer : new.buffer ≡ old.buffer
   pub report : IfSome r (IsReportBy query old)
   pub unasked : IsSome r → reader.query_of new.reader ≡ None
   pub told : IsSome (reader.outcome_of old.reader) → IsSome r

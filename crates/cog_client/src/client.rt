@@ -44,7 +44,6 @@ pub struct Client {
     asked: Option<Span>,
     source: Option<RevisionReader>,
     cache: Cache,
-    buffer: Vec<u8>,
     report: Option<Report>,
     partial_answer: PartialAnswer,
 }
@@ -61,7 +60,6 @@ impl Drop for Client {
             asked: _,
             source: _,
             cache: _,
-            buffer: _,
             report: _,
             partial_answer: _,
         } = self;
@@ -98,18 +96,19 @@ impl Model for Client {
     }) };
 }
 
-#[tactic(auto, unfolding(crate::specs::Client::how_of, crate::specs::Client::host_of, crate::specs::Client::name_of, crate::specs::Client::query_of, crate::specs::Client::asked_of, crate::specs::Client::revision_of, crate::specs::Client::blocks_of, crate::specs::Client::report_of, crate::specs::Client::feed_of, crate::specs::Client::to_come, crate::specs::Client::tiles_of, crate::specs::Client::AreDirectoriesKnown, crate::specs::Client::Knows, crate::specs::Client::ClientAgrees))]
+#[tactic(auto, unfolding(crate::specs::Client::how_of, crate::specs::Client::host_of, crate::specs::Client::name_of, crate::specs::Client::query_of, crate::specs::Client::asked_of, crate::specs::Client::revision_of, crate::specs::Client::blocks_of, crate::specs::Client::report_of, crate::specs::Client::feed_of, crate::specs::Client::to_come, crate::specs::Client::tiles_of, crate::specs::Client::buffer_of, crate::specs::Client::AreDirectoriesKnown, crate::specs::Client::Knows, crate::specs::Client::ClientAgrees))]
 impl Client {
-    ghost use Rattle.std.specs.Prelude.{◌≡◌, ◌*◌, ◌≤◌, ℕ, List, None, Some, IfErr, IfOk, IfSome, IsSome, IsTrue, MatchOption, OnErr, OnOk, option_copied};
+    ghost use Rattle.std.specs.Prelude.{◌≡◌, ◌*◌, ◌≤◌, ℕ, List, None, Some, IfErr, IfOk, IfSome, IsSome, IsTrue, MatchOption, OnErr, OnOk, option_copied, length};
     ghost use Rattle.std.specs.Option.{option_map};
     ghost use Rattle.tiff_dir.specs.Described.{AreLevels};
-    ghost use Rattle.extents.specs.declared.limits.TheConstants.{BLOCK_SIZE};
+    ghost use Rattle.extents.specs.declared.limits.TheConstants.{BLOCK_SIZE, MAX_RANGE_BYTES};
+    ghost use Rattle.cog_client.specs.declared.request_options.TheConstants.{REQUEST_LIMIT};
     ghost use Rattle.tile_plan.specs.TileCache.{size_of_tiles};
     ghost use Rattle.http_range.specs.Ask.{CanAsk, CanCheck};
     ghost use Rattle.http_range.specs.Announced.{announced};
     ghost use Rattle.http_range.specs.Tag.{is_kept_tag};
     ghost use Rattle.cog_client.specs.declared.delivered.Current.TheVariants.{Same};
-    ghost use Rattle.cog_client.specs.Client.{client_refusal, AreDirectoriesKnown, IsFew, IsClientRefusal, Knows, asked_of, feed_of, host_of, name_of, blocks_of, query_of, report_of, revision_of, tag_of, tiles_of};
+    ghost use Rattle.cog_client.specs.Client.{client_refusal, AreDirectoriesKnown, IsFew, IsClientRefusal, Knows, asked_of, buffer_of, feed_of, host_of, name_of, blocks_of, query_of, report_of, revision_of, tag_of, tiles_of};
     ghost use Rattle.cog_client.specs.FedClient.{revision_of_head};
     ghost use Rattle.cog_client.specs.Calls.{Forgets, Starts, request_for, unless_reported};
     ghost use Rattle.cog_client.specs.Keeps.{GoesOnKeeping, KeepsOpen, LooksAhead, Misses, OpensKeeping, RequestsKeeping, Stands, StopsAsking};
@@ -157,7 +156,6 @@ impl Client {
             asked: None,
             source: None,
             cache,
-            buffer: Vec::new(alloc),
             report: None,
             partial_answer,
         })
@@ -260,9 +258,11 @@ impl Client {
         source.reader.levels()
     }
 
-    /// The tiles that are kept unpacked have no more bytes together than the blocks may have. It does nothing: its contract is the law.
+    /// Does nothing: its contract is the law of what a client keeps between two calls beside its blocks. The tiles that are kept unpacked
+    /// have no more bytes together than the blocks may have, and what stands in one piece is at most one range.
     pub fn no_more_is_kept(&self)
-        ensures { size_of_tiles (tiles_of self.now) ≤ (blocks_of self.now).capacity * BLOCK_SIZE }
+        ensures tiles { size_of_tiles (tiles_of self.now) ≤ (blocks_of self.now).capacity * BLOCK_SIZE }
+        ensures buffer { buffer_of self.now ≤ MAX_RANGE_BYTES }
     {
         if let Some(source) = &self.source {
             source.reader.no_more_is_kept();
@@ -277,6 +277,7 @@ impl Client {
         ensures err { OnErr result (StopsAsking self.old self.new) }
         // It comes only where something may be asked.
         ensures asks { OnErr result (IsSome (query_of self.old) × (report_of self.old ≡ None)) }
+        ensures short { IfOk result (λ o. IfSome o (λ text. length text.items ≤ REQUEST_LIMIT)) }
     {
         self.partial_answer.clear();
         self.asked = None;
@@ -339,7 +340,7 @@ impl Client {
             Some(source) => fill(
                 &mut source.reader,
                 &mut self.cache,
-                &mut self.buffer,
+                &mut source.buffer,
                 self.how.ahead,
             )?,
         };
@@ -383,6 +384,7 @@ impl Client {
         requires few { IfSome asked IsFew }
         ensures adopts { Adopts (revision_of_head (announced head.now)) asked self.old self.new }
         ensures feed { feed_of self.new ≡ feed_of self.old }
+        ensures buffer { buffer_of self.new ≡ 0 }
     {
         self.asked = asked;
         self.cache.clear();
@@ -396,6 +398,7 @@ impl Client {
         ensures text { IfOk result (λ o. option_map (λ v. v.items) o ≡ check_of self.now) }
         ensures lawful { IfSome (tag_of self.now) (CanCheck (host_of self.now) (name_of self.now)) }
         ensures err { OnErr result (IsSome (tag_of self.now)) }
+        ensures short { IfOk result (λ o. IfSome o (λ text. length text.items ≤ REQUEST_LIMIT)) }
     {
         match self.tag() {
             None => Ok(None),

@@ -30,5 +30,6 @@ pub use laws::{
 };
 pub use pieces::Pieces;
 pub use report::Report;
+pub use request_options::REQUEST_LIMIT;
 pub use tiff_dir::{Memory, Query};
 pub use transport::{Lost, Transport};

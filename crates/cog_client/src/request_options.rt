@@ -1,5 +1,8 @@
 //! How a client asks.
 
+/// No request of a client has more bytes (own).
+pub const REQUEST_LIMIT: usize = 1024;
+
 /// How a client asks, beside what for.
 #[derive(Clone, Copy)]
 pub struct RequestOptions {

@@ -12,6 +12,8 @@ pub struct RevisionReader {
     /// The length of the file in bytes.
     pub complete: u64,
     pub reader: Reader,
+    /// Room for bytes that have to stand in one piece for the reader: one range at most.
+    pub buffer: Vec<u8>,
 }
 
 impl RevisionReader {
@@ -33,6 +35,7 @@ impl RevisionReader {
         ensures length { file_length_of result.reader ≡ head.now.complete }
         ensures query { query_of result.reader ≡ query }
         ensures tiles { (tiles_of result.reader).most ≡ tile_cache_bytes }
+        ensures buffer { length result.buffer.items ≡ 0 }
     {
         let mut reader = Reader::keeping(alloc, head.complete, tile_cache_bytes);
         match query {
@@ -43,6 +46,7 @@ impl RevisionReader {
             tag: head.tag.copy(),
             complete: head.complete,
             reader,
+            buffer: Vec::new(alloc),
         }
     }
 

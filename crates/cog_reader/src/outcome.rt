@@ -34,6 +34,21 @@ pub struct Info {
     pub transformation: Option<Vec<[u8; 8]>>,
 }
 
+impl Info {
+    ghost use Rattle.std.specs.Prelude.{◌≡◌};
+    ghost use Rattle.std.specs.Option.{option_copied, option_map};
+
+    /// Returns the numbers of ModelTransformation, as the field `transformation` has them.
+    pub fn transform(&self) -> Option<&[[u8; 8]]>
+        ensures { option_copied result ≡ option_map (λ numbers. numbers.items) self.now.transformation }
+    {
+        match &self.transformation {
+            None => None,
+            Some(numbers) => Some(numbers),
+        }
+    }
+}
+
 /// The answer to a query of a file.
 #[derive(Debug, Drop, PartialEq, Eq)]
 pub enum Outcome {

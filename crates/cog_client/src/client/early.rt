@@ -2,6 +2,7 @@
 ghost use Rattle.std.specs.Prelude.{◌≡◌, ◌≤◌, [], IfOk, IsOk, length, map};
 ghost use Rattle.std.specs.List.{All};
 ghost use Rattle.cog_reader.specs.Early.{AreApart};
+ghost use Rattle.cog_client.specs.declared.request_options.TheConstants.{REQUEST_LIMIT};
 ghost use Rattle.cog_client.specs.Early.{AreEarlyRequests, AsksNothingEarly, IsEarly, LeaveNothing};
 
 use crate::client::Client;
@@ -19,6 +20,7 @@ impl Client {
         ensures requests { IfOk result (λ texts. AreEarlyRequests self.now (map (λ text. text.items) texts.items)) }
         ensures none { AsksNothingEarly self.now → IfOk result (λ texts. texts.items ≡ []) }
         ensures few { IfOk result (λ texts. length texts.items ≤ most) }
+        ensures short { IfOk result (λ texts. All (λ text. length text.items ≤ REQUEST_LIMIT) texts.items) }
         ensures sure { AsksNothingEarly self.now → IsOk result }
     {
         let spans = self.spans_early(most)?;

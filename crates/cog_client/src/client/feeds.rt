@@ -3,7 +3,7 @@ ghost use Rattle.std.specs.Prelude.{◌≡◌, ◌≤◌, ◌++◌, ℕ, List, [
 ghost use Rattle.http_range.specs.Announced.{announced, FitsFile};
 ghost use Rattle.cog_client.specs.declared.delivered.Delivered.TheVariants.{Ignored as AnIgnored};
 ghost use Rattle.cog_client.specs.PartialAnswer.{IsBounded};
-ghost use Rattle.cog_client.specs.Client.{ClientState, feed_of};
+ghost use Rattle.cog_client.specs.Client.{ClientState, buffer_of, feed_of};
 ghost use Rattle.cog_client.specs.FedClient.{Fed, FedBefore, FedBy};
 ghost use Rattle.cog_client.specs.AnswerPhase.{cut_off, nothing_fed, rest_dropped};
 ghost use Rattle.cog_client.specs.Keeps.{DeliversKeeping, StopsDelivery};
@@ -16,7 +16,7 @@ use extents::Memory;
 use http_range::{Head, Why, law_fronts_are_read, law_heads_grow};
 use range_cache::{law_parts_bring_blocks, law_stored_are_held};
 
-#[tactic(auto, unfolding(crate::specs::Client::asked_of, crate::specs::Client::revision_of, crate::specs::Client::blocks_of, crate::specs::Client::report_of, crate::specs::Client::feed_of))]
+#[tactic(auto, unfolding(crate::specs::Client::asked_of, crate::specs::Client::revision_of, crate::specs::Client::blocks_of, crate::specs::Client::report_of, crate::specs::Client::feed_of, crate::specs::Client::buffer_of))]
 impl Client {
     /// Begins an answer. An unfinished one is dropped. It takes no memory.
     pub fn begin(&mut self)
@@ -35,6 +35,7 @@ impl Client {
         ensures stops { OnErr result (feed_of self.new ≡ rest_dropped) }
         ensures dropped { feed_of self.old ≡ rest_dropped → OnOk result (self.new ≡ self.old) × OnErr result ⊥ }
         ensures bounded { IsBounded (feed_of self.new) }
+        ensures buffer { buffer_of self.new ≤ buffer_of self.old }
     {
         let from = self.feed_head(piece);
         let fed = self.feed_body(&piece[from..]);
@@ -83,6 +84,7 @@ impl Client {
         ensures within { result ≤ length piece.now }
         ensures before { (s : ClientState) (p : List ℕ) → Fed s p self.old → FedBefore s (p ++ piece.now) (drop result piece.now) self.new }
         ensures dropped { feed_of self.old ≡ rest_dropped → self.new ≡ self.old }
+        ensures buffer { buffer_of self.new ≤ buffer_of self.old }
     {
         law_heads_grow();
         match self.partial_answer.look(piece) {
@@ -98,7 +100,8 @@ impl Client {
     /// Begins to follow the case of a head.
     fn follow(&mut self, head: Head)
         requires fits { FitsFile (announced head) }
-        ensures { FedBy (announced head) self.old [] self.new }
+        ensures fed { FedBy (announced head) self.old [] self.new }
+        ensures buffer { buffer_of self.new ≤ buffer_of self.old }
     {
         let asked = self.asked;
         let case = case_of_head(&self.source, asked, &head);
@@ -126,6 +129,7 @@ impl Client {
         ensures err { OnErr result ((s : ClientState) (p : List ℕ) → FedBefore s p bytes.now self.old → StopsDelivery s p self.new) }
         ensures stops { OnErr result (feed_of self.new ≡ rest_dropped) }
         ensures dropped { feed_of self.old ≡ rest_dropped → OnOk result (self.new ≡ self.old) × OnErr result ⊥ }
+        ensures buffer { buffer_of self.new ≡ buffer_of self.old }
     {
         law_fronts_are_read();
         law_lengths_are_known();

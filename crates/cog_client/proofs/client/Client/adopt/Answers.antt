@@ -1,4 +1,4 @@
-use Rattle.std.proofs.Common.{◌≡◌, ℕ, ◌*◌, Some, None, sym, ap, subst, ◌∙◌}
+use Rattle.std.proofs.Common.{◌≡◌, ℕ, ◌*◌, Some, None, sym, ap, subst, arith, ◌∙◌}
 use Rattle.extents.specs.declared.limits.TheConstants.{BLOCK_SIZE}
 use Rattle.http_range.specs.Announced.{announced}
 use Rattle.cog_client.specs.FedClient.{revision_of_head}
@@ -18,4 +18,4 @@ returns-clause-adopts c =
     ap (known i.partial_answer i.how i.host.items i.name.items i.query i.asked i.source i.cache) silent in
     subst (λ r. Adopts p c.args.asked c.args.self.now (known i.partial_answer i.how i.host.items i.name.items i.query c.args.asked (Some c.new.result) c.clear.new.self r)) (sym silent)
     (subst (λ k. Adopts p c.args.asked k (known i.partial_answer i.how i.host.items i.name.items i.query c.args.asked (Some c.new.result) c.clear.new.self None)) (sym is ∙ c.self.view_is)
-    (adopted i.partial_answer i.how i.host.items i.name.items i.query i.asked c.args.asked i.source c.new.result i.cache c.clear.new.self p e.tag e.complete c.clear.ensures.empty c.clear.ensures.holds e.agrees e.length e.query (e.tiles ∙ ap (λ (n : ℕ). n * BLOCK_SIZE) c.capacity.ensures.exact) c.requires.few (subst IsClient is c.self.invariant)))
+    (adopted i.partial_answer i.how i.host.items i.name.items i.query i.asked c.args.asked i.source c.new.result i.cache c.clear.new.self p e.tag e.complete c.clear.ensures.empty c.clear.ensures.holds e.agrees e.length e.query (e.tiles ∙ ap (λ (n : ℕ). n * BLOCK_SIZE) c.capacity.ensures.exact) (omega (arith, e.buffer)) c.requires.few (subst IsClient is c.self.invariant)))

@@ -15,4 +15,4 @@ returns-in-Some-clause-before c s p fed =
     let same : mid ≡ record now { feed = c.look.new.self } = subst (λ (m : ClientState). mid ≡ record m { feed = c.look.new.self }) c.self.view_is refl in
     let looks : LooksOn (feed_of now) bytes c.look.new.self (Some c.in-Some.found) =
     subst (λ (m : ClientState). LooksOn (feed_of m) bytes c.look.new.self (Some c.in-Some.found)) c.self.view_is c.in-Some.ensures in
-    looked_found c.law_heads_grow.ensures s p bytes now c.follow.new.self c.in-Some.found mid same looks c.follow.ensures fed
+    looked_found c.law_heads_grow.ensures s p bytes now c.follow.new.self c.in-Some.found mid same looks c.follow.ensures.fed fed

@@ -1,8 +1,8 @@
-use Rattle.std.proofs.Common.{◌≡◌, Some, refl, sym, subst}
+use Rattle.std.proofs.Common.{◌≡◌, ◌≤◌, ℕ, Some, arith, refl, sym, ap, subst}
 use Rattle.extents.specs.declared.span.Span.{Span}
 use Rattle.http_range.specs.Announced.{announced}
 use Rattle.cog_client.specs.declared.case.Case.{Case}
-use Rattle.cog_client.specs.Client.{ClientState, asked_of, feed_of, revision_of}
+use Rattle.cog_client.specs.Client.{ClientState, asked_of, buffer_of, feed_of, revision_of}
 use Rattle.cog_client.specs.Fed.{case_of_head}
 use Rattle.cog_client.specs.FedClient.{Begins, case_for, revision_of_head}
 use Rattle.cog_client.specs.Steps.{Adopts}
@@ -11,9 +11,9 @@ use Rattle.cog_client.proofs.FollowLemmas.{followed}
 use Rattle.cog_client.proofs.client.Client.follow.Goals.{in-Adopted, in-Restarted, in-Accepted}
 use Rattle.cog_client.proofs.client.Client.follow.Goals as goal
 
-pub returns : goal.returns
+pub returns-clause-fed : goal.returns-clause-fed
 unfolding asked_of revision_of feed_of
-returns c =
+returns-clause-fed c =
     let j = c.self-2.inside in
     let head = announced c.args.head in
     let now = c.args.self.now in
@@ -34,3 +34,15 @@ returns c =
           subst (λ (m : ClientState). Begins k head now m) (sym w.self-is) (subst (λ (x : Case). Begins x head now now) (sym w.in-Accepted.is) (now.feed, refl))
     ] in
     followed head now mid new k c.in-Some.span is begins asks c.follow.ensures same
+
+pub returns-clause-buffer : goal.returns-clause-buffer
+unfolding buffer_of
+returns-clause-buffer c =
+    let now = c.args.self.now in
+    let mid = c.match-case.self in
+    let fewer : buffer_of mid ≤ buffer_of now = elim c.match-case.branch [
+      | in-Adopted w ↦ subst (λ (m : ClientState). buffer_of m ≤ buffer_of now) (sym w.self-is) (omega (arith, w.adopt.ensures.buffer))
+      | in-Restarted w ↦ subst (λ (m : ClientState). buffer_of m ≤ buffer_of now) (sym w.self-is) (omega (arith, w.adopt-in-Restarted.ensures.buffer))
+      | in-Accepted w ↦ subst (λ (m : ClientState). buffer_of m ≤ buffer_of now) (sym w.self-is) (omega arith)
+    ] in
+    subst (λ (n : ℕ). n ≤ buffer_of now) (sym (ap buffer_of c.self-2.view_is)) fewer

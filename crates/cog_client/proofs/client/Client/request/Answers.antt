@@ -7,6 +7,7 @@ use Rattle.cog_client.specs.Calls.{IsIdle, request_for}
 use Rattle.cog_client.specs.Keeps.{AsksFor, GoesOnKeeping, Misses, StopsAsking}
 use Rattle.cog_client.proofs.GoingLemmas.{refused}
 use Rattle.cog_client.proofs.ClientLemmas.{goes_trans, known}
+use Rattle.cog_client.proofs.LengthLemmas.{short_by}
 use Rattle.cog_client.proofs.RequestLemmas.{asking_sound, busy, none_asked, none_of, requested, requests_none, unasked}
 use Rattle.cog_client.proofs.client.Client.request.Goals.{then-is_none-via-then-is_none, then-is_none-via-else-is_none+then-is_some}
 use Rattle.cog_client.proofs.client.Client.request.Goals as goal
@@ -96,3 +97,6 @@ returns-in_default-clause-ok c =
     requests_none c.args.self.now c.missing.new.self (goes_trans c.args.self.now before c.missing.new.self old e.goes)
     (none_asked (report_of c.missing.new.self) (asked_of c.missing.new.self) (asked_of before) e.asked refl)
     (subst (Misses c.missing.new.self) c.in_default.is e.ok) (λ some. absurd (false≢true (sym quiet_before ∙ some))) (e.feed ∙ c.clear.ensures)
+
+pub returns-clause-short : goal.returns-clause-short
+returns-clause-short c = short_by c.missing.new.self c.in-Some.span c.in_ok-text.text c.in_ok-text.ensures.text c.request_for.ensures.lawful
