@@ -1,3 +1,4 @@
 pub mod Description
 pub mod Facts
 pub mod Placement
+pub mod Text

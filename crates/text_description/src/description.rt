@@ -1,5 +1,6 @@
 //! The description of a file.
-ghost use Rattle.std.specs.Prelude.{◌≡◌, IfOk, IfSome, None, Ok};
+ghost use Rattle.std.specs.Prelude.{◌≡◌, IfOk, IfSome, None, Ok, string_bytes};
+ghost use Rattle.text_description.specs.Text.{IsJson, IsLine};
 ghost use Rattle.std.specs.Option.{option_map};
 ghost use Rattle.text_description.specs.Description.{Describes, AreLevelsBy, HasNoInfo, is_point};
 ghost use Rattle.text_description.specs.Facts.{AreFactsOf};
@@ -76,8 +77,11 @@ impl<'a> Description<'a> {
         }))
     }
 
-    /// The text of a description, which ends with its last line.
-    pub fn text(&self, alloc: Global, form: Form) -> Result<String, Memory> {
+    /// Returns the text of a description, which ends with its last line: a line for each fact, or JSON with lines and indents. Fails where
+    /// no memory is left.
+    pub fn text(&self, alloc: Global, form: Form) -> Result<String, Memory>
+        ensures json { form ≡ Form.Json → IfOk result (λ text. IsLine IsJson (string_bytes text)) }
+    {
         match form {
             Form::Words => Ok(format!(in alloc; "{self}")?),
             Form::Json => {
@@ -136,6 +140,11 @@ fn facts_of(alloc: Global, levels: &[Level]) -> Result<Vec<LevelFacts>, Memory>
 
 /// A description in JSON, with lines and indents. A number that JSON doesn't have (NaN, or one without end) is `null`. `Memory` is the
 /// only error: every description can be written.
-fn json_text(alloc: Global, description: &Description<'_>) -> Result<String, Memory> {
-    serde_json::to_string_pretty(alloc, description).map_err(|_| Memory)
+fn json_text(alloc: Global, description: &Description<'_>) -> Result<String, Memory>
+    ensures { IfOk result (λ text. IsJson (string_bytes text)) }
+{
+    match serde_json::to_string_pretty(alloc, description) {
+        Ok(text) => Ok(text),
+        Err(_) => Err(Memory),
+    }
 }

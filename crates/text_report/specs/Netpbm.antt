@@ -1,5 +1,7 @@
 -- Portable graymaps and pixmaps (Netpbm, the formats P5 and P6).
-use Rattle.std.specs.Prelude.{ℕ, ◌==◌, if◌then◌else◌, List, ◌++◌, codes, decimal}
+use Rattle.std.specs.Prelude.{ℕ, ◌==◌, if◌then◌else◌, List, ◌++◌, codes, decimal, Option, Some, None}
+use Rattle.cog_reader.specs.declared.outcome.Outcome.{Outcome}
+use Rattle.cog_reader.specs.declared.outcome.Outcome.TheVariants as outcomes
 
 -- the magic number: a pixel of a graymap is one sample, one of a pixmap is three
 abbrev pub magic : ℕ → List ℕ
@@ -13,3 +15,9 @@ maximum bits = if bits == 16 then codes "65535" else codes "255"
 unfoldable pub netpbm : (samples bits w h : ℕ) → List ℕ → List ℕ
 netpbm samples bits w h pixels =
     magic samples ++ codes "\n" ++ decimal w ++ codes " " ++ decimal h ++ codes "\n" ++ maximum bits ++ codes "\n" ++ pixels
+
+-- the picture of a window; nothing else has one
+abbrev pub picture_of : Outcome → Option (List ℕ)
+picture_of (outcomes.Window window) = Some (netpbm window.samples window.bits window.w window.h window.pixels.items)
+picture_of (outcomes.Info info) = None
+picture_of (outcomes.Fault fault) = None

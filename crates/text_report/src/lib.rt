@@ -9,5 +9,5 @@ mod sentences;
 
 pub use escaped_text::EscapedText;
 pub use info::info_text;
-pub use netpbm::{picture, picture_head};
+pub use netpbm::{picture, picture_head, window_picture};
 pub use sentences::FaultSentence;

@@ -1,8 +1,9 @@
 //! Windows as portable graymaps and pixmaps (Netpbm, the formats P5 and P6).
-ghost use Rattle.std.specs.Prelude.{◌≡◌, ◌++◌, IfOk};
-ghost use Rattle.text_report.specs.Netpbm.{netpbm};
+ghost use Rattle.std.specs.Prelude.{◌≡◌, ◌++◌, IfOk, IsSome, Some};
+ghost use Rattle.text_report.specs.Netpbm.{netpbm, picture_of};
 
-use cog_reader::Window;
+use cog_client::Report;
+use cog_reader::{Outcome, Window};
 use extents::Memory;
 use itoa::Buffer;
 use std::alloc::Global;
@@ -28,14 +29,26 @@ pub fn picture_head(alloc: Global, window: &Window) -> Result<Vec<u8>, Memory>
     Ok(head)
 }
 
-/// The window as P5, or as P6 where a pixel has three samples: a head of text, then the samples.
+/// Returns the window of a report as P5, or as P6 where a pixel has three samples: a head of text, then the samples. The report is of a
+/// window. Fails where no memory is left.
 ///
 /// ```
-/// if let Outcome::Window(window) = &report.outcome {
-///     io::writer(&rt).write_all(&picture(rt.alloc(), window)?)?;
+/// if let Outcome::Window(_) = &report.outcome {
+///     io::writer(&rt).write_all(&picture(rt.alloc(), report)?)?;
 /// }
 /// ```
-pub fn picture(alloc: Global, window: &Window) -> Result<Vec<u8>, Memory>
+pub fn picture(alloc: Global, report: &Report) -> Result<Vec<u8>, Memory>
+    requires window { IsSome (picture_of report.now.outcome) }
+    ensures picture { IfOk result (λ text. picture_of report.now.outcome ≡ Some text.items) }
+{
+    let Outcome::Window(window) = &report.outcome else {
+        unreachable!()
+    };
+    window_picture(alloc, window)
+}
+
+/// Returns a window as P5, or as P6, as `picture` does. Fails where no memory is left.
+pub fn window_picture(alloc: Global, window: &Window) -> Result<Vec<u8>, Memory>
     ensures { IfOk result (λ text. text.items
         ≡ netpbm window.now.samples window.now.bits window.now.w window.now.h window.now.pixels.items) }
 {

@@ -18,14 +18,14 @@ use Rattle.world.specs.declared.event.Effect.{Effect}
 use Rattle.world.specs.declared.event.Entry.{Entry}
 use Rattle.world.specs.declared.event.Event.{Event}
 use Rattle.world.specs.declared.event.Event.TheVariants.{Publish, Epoch, NewClient, Open, Forget, Ask, AskFrom, Deliver, Exchange, Check}
-use Rattle.world.specs.World.{World, AreOfBook, after, after_all, host, is_for, made_by, scheduled, start}
-use Rattle.world.specs.Run.{Asks, IsExchanged, cut_at}
-use Rattle.world.specs.State.{CallsWith, IsDeliveredKeeping, IsGiven, IsState, RunsKeeping, StepKeeping, StillAgrees, StopsAt, StopsDelivering, StopsStep, answer_at, request_in}
+use Rattle.world.specs.World.{World, AreOfBook, after, after_all, client_of, host, is_for, made_by, scheduled, start}
+use Rattle.world.specs.Run.{Asks, IsBeginning, IsExchanged, LeavesOthers, cut_at, receiver}
+use Rattle.world.specs.State.{AllAgree, CallsWith, IsDeliveredKeeping, IsDoneOrLeft, IsGiven, IsState, RunsKeeping, StepKeeping, StillAgrees, StopsAt, StopsDelivering, StopsStep, StopsWithin, answer_at, request_in}
 use Rattle.world.specs.LowerLaws.{LowerLaws}
 use Rattle.world.proofs.Kept.{kept_at, kept_length}
 use Rattle.world.proofs.Lists.{get-set, get_there}
 use Rattle.world.proofs.Good.{Good, good_start, nothing_agrees, restart_by}
-use Rattle.world.proofs.Whole.{good_run}
+use Rattle.world.proofs.Whole.{good_run, run_truth, runs_seen, step_seen}
 use Rattle.world.proofs.Truth.{answer_for, answer_honest, asked_for, front_is, sound_step}
 
 -- ---- within a call
@@ -172,6 +172,13 @@ module _ (laws : LowerLaws) where
   step_left w cs (Check i) n new g h = made_left w cs (Check i) n new g h (λ p j. j)
 
   -- what a caller sees of it
+  pub all_agree : (cs : List ClientState) (book : Book) → AgreeNow cs book → AllAgree cs book
+  all_agree cs book agree i = by (slice_get cs i) refl
+    where
+      by : (o : Option ClientState) → slice_get cs i ≡ o → IfSome o (λ c. ClientAgrees c book)
+      by None at = tt
+      by (Some c) at = agree i c at
+
   pub seen_left : (cs : List ClientState) (book : Book) → AgreeNow cs book → AreOfBook cs book
   seen_left cs book agree i = by (slice_get cs i) refl
     where
@@ -190,21 +197,65 @@ after_fewer w cs (e ∷ es) zero (n ∷ ns) new h = absurd h
 after_fewer w cs (e ∷ es) (suc k) [] new h = absurd h
 after_fewer w cs (e ∷ es) (suc k) (n ∷ ns) new (mid, step, rest) = after_fewer (after w e n.effect) mid es k ns new rest
 
-pub left_seen : (laws : LowerLaws) (es : List Event) (k : ℕ) (ns : List Entry) (cs left : List ClientState) → RunsKeeping start [] (take k es) ns cs → AgreeNow left (after_all start (take k es) ns).book → AreOfBook left (after_all start es ns).book
-left_seen laws es k ns cs left runs agree =
-    subst (λ (w : World). AreOfBook left w.book) (sym (after_fewer start [] es k ns cs runs)) (seen_left laws left (after_all start (take k es) ns).book agree)
+pub left_agree : (es : List Event) (k : ℕ) (ns : List Entry) (cs left : List ClientState) → RunsKeeping start [] (take k es) ns cs → AgreeNow left (after_all start (take k es) ns).book → AgreeNow left (after_all start es ns).book
+left_agree es k ns cs left runs agree = subst (λ (w : World). AgreeNow left w.book) (sym (after_fewer start [] es k ns cs runs)) agree
 
 -- where an event was left, and where it was made and not logged
 pub event_left : (laws : LowerLaws) (es : List Event) (k : ℕ) (ns : List Entry) (cs : List ClientState) (e : Event) (new : List ClientState) → RunsKeeping start [] (take k es) ns cs
-    → StopsStep (after_all start (take k es) ns) cs e new → AreOfBook new (after_all start es ns).book
+    → StopsStep (after_all start (take k es) ns) cs e new → AgreeNow new (after_all start es ns).book
 event_left laws es k ns cs e new runs h =
-    left_seen laws es k ns cs new runs (stops_left laws (after_all start (take k es) ns) cs e new (good_run laws start [] (take k es) ns cs good_start runs) h)
+    left_agree es k ns cs new runs (stops_left laws (after_all start (take k es) ns) cs e new (good_run laws start [] (take k es) ns cs good_start runs) h)
 
 pub made_event_left : (laws : LowerLaws) (es : List Event) (k : ℕ) (ns : List Entry) (cs : List ClientState) (e : Event) (n : Entry) (new : List ClientState) → RunsKeeping start [] (take k es) ns cs
-    → StepKeeping (after_all start (take k es) ns) cs e n new → AreOfBook new (after_all start es ns).book
+    → StepKeeping (after_all start (take k es) ns) cs e n new → AgreeNow new (after_all start es ns).book
 made_event_left laws es k ns cs e n new runs h =
-    left_seen laws es k ns cs new runs (step_left laws (after_all start (take k es) ns) cs e n new (good_run laws start [] (take k es) ns cs good_start runs) h)
+    left_agree es k ns cs new runs (step_left laws (after_all start (take k es) ns) cs e n new (good_run laws start [] (take k es) ns cs good_start runs) h)
 
-pub of_both : {T E : Type 0} {P : Type 0} (r : Result T E) → OnOk r P → OnErr r P → P
-of_both (Ok x) ok err = ok
-of_both (Err e) ok err = err
+-- and where all were made
+pub run_agrees : (laws : LowerLaws) (es : List Event) (ns : List Entry) (cs : List ClientState) → RunsKeeping start [] es ns cs → AgreeNow cs (after_all start es ns).book
+run_agrees laws es ns cs runs i c at =
+    let good = good_run laws start [] es ns cs good_start runs in
+    good.agree i c at (after_all start es ns).book (λ p j. j) good.distinct
+
+-- ---- no other client changed
+
+left_alone : (o : Option ClientState) (Given : ClientState → List ℕ → Type 0) (i : ℕ) (old new : List ClientState) → StopsAt o Given i old new → LeavesOthers (Some i) old new
+left_alone None Given i old new h = inl h
+left_alone (Some c) Given i old new h = inr (h.0, h.1)
+
+delivery_alone : (o : Option Answer) (oc : Option ClientState) (cut : Option ℕ) (i : ℕ) (old new : List ClientState) → StopsDelivering o oc cut i old new → LeavesOthers (Some i) old new
+delivery_alone None oc cut i old new h = inl h
+delivery_alone (Some a) oc cut i old new h = left_alone (receiver (Some a) oc) (λ c text. IsFront text (cut_at cut a.text.items)) i old new h
+
+pub leaves_others : (w : World) (cs : List ClientState) (e : Event) (new : List ClientState) → StopsStep w cs e new → LeavesOthers (client_of e) cs new
+leaves_others w cs (Publish name file) new h = h
+leaves_others w cs (Epoch e) new h = h
+leaves_others w cs (NewClient name blocks) new h = h
+leaves_others w cs (Open i q) new h = left_alone (slice_get cs i) (λ c text. ⊥) i cs new h
+leaves_others w cs (Forget i) new h = left_alone (slice_get cs i) (λ c text. ⊥) i cs new h
+leaves_others w cs (Ask message) new h = h
+leaves_others w cs (AskFrom i) new h = left_alone (slice_get cs i) (λ c text. ⊥) i cs new h
+leaves_others w cs (Deliver i k cut) new h = delivery_alone (slice_get w.sent k) (slice_get cs i) cut i cs new h
+leaves_others w cs (Exchange i) new h = left_alone (slice_get cs i) (IsGiven w.catalogue (length w.sent) i calls.Exchange) i cs new h
+leaves_others w cs (Check i) new h = inl h
+
+-- ---- the log
+
+pub beginning : (laws : LowerLaws) (events : List Event) (k : ℕ) (ns : List Entry) (cs left : List ClientState) (e : Event) → slice_get events k ≡ Some e → RunsKeeping start [] (take k events) ns cs
+    → IsDoneOrLeft (after_all start (take k events) ns) cs e left → IsBeginning events ns left
+beginning laws events k ns cs left e next runs stops = record {
+  count = k;
+  clients = cs;
+  logged = runs_seen start [] (take k events) ns cs runs;
+  truth = run_truth laws (take k events) ns cs runs;
+  event = e;
+  next = next;
+  cut_off = elim stops [
+    | inl d ↦ inl (d.0, step_seen (after_all start (take k events) ns) cs e d.0 left d.1)
+    | inr h ↦ inr (leaves_others (after_all start (take k events) ns) cs e left h)
+  ];
+}
+
+pub stopped : (events : List Event) (k : ℕ) (ns : List Entry) (cs left : List ClientState) (e : Event) → slice_get events k ≡ Some e → RunsKeeping start [] (take k events) ns cs
+    → IsDoneOrLeft (after_all start (take k events) ns) cs e left → StopsWithin events ns left
+stopped events k ns cs left e next runs stops = record { count = k; clients = cs; runs = runs; event = e; next = next; stops = stops }

@@ -36,7 +36,7 @@ use Rattle.world.specs.declared.event.Effect.{Effect}
 use Rattle.world.specs.declared.event.Entry.{Entry}
 use Rattle.world.specs.Progress.{IsNeededEntry}
 use Rattle.world.specs.World.{World, Seen, start, answer_in, next_of, publish_by, after, after_all, client_of, AtEach, IsTrueAt, IsTrueEntry, IsToldIn, SayTheSame, shown, AreAlike, AreOfBook, IsHonestEntry, IsExactEntry}
-use Rattle.world.specs.Run.{AtClient, DeliversWith, IsChecked, Step, Runs, IsBeginning, IsTrueLog, cut_at, news, receiver, told_of}
+use Rattle.world.specs.Run.{AtClient, DeliversWith, IsChecked, Step, Runs, IsTrueLog, cut_at, news, receiver, told_of}
 use Rattle.world.specs.State.{refused_at, server_of, Answers, AreKept, Does, IsAtAfter, IsCheckBy, IsCheckedKeeping, IsDeliveryKeeping, IsState, Keeping, Publishes, RunsKeeping, StepKeeping, answer_at, noted}
 use Rattle.world.specs.LowerLaws.{LowerLaws}
 use Rattle.world.proofs.Good.{Good, good_start}
@@ -214,7 +214,7 @@ check_seen None catalogue sent i n old new at h = h
 check_seen (Some c) catalogue sent i n old new at h =
     record { next = c; changed = h.2.same ∙ sym (set_there old i c at); does = (refl, checked_seen catalogue sent i c h.0 n.effect h.1); tells = quiet_news c (told_of n) h.2.report }
 
-step_seen : (w : World) (cs : List ClientState) (e : Event) (n : Entry) (new : List ClientState) → StepKeeping w cs e n new → Step w cs e n new
+pub step_seen : (w : World) (cs : List ClientState) (e : Event) (n : Entry) (new : List ClientState) → StepKeeping w cs e n new → Step w cs e n new
 step_seen w cs (Publish name file) n new h = h
 step_seen w cs (Epoch e) n new h = h
 step_seen w cs (NewClient name blocks) n new h = h
@@ -259,9 +259,6 @@ run_truth laws es ns cs runs =
       honest = each_run IsHonestEntry laws (λ w cs e n new g hosts step. honest_step laws w cs e n new g step) start [] es ns cs good_start hosted_start runs;
       clients = clients_truth laws es ns cs runs;
     }
-
-pub beginning : (laws : LowerLaws) (events : List Event) (k : ℕ) (ns : List Entry) (cs : List ClientState) → k < length events → RunsKeeping start [] (take k events) ns cs → IsBeginning events ns
-beginning laws events k ns cs fewer runs = record { count = k; fewer = fewer; clients = cs; logged = runs_seen start [] (take k events) ns cs runs; truth = run_truth laws (take k events) ns cs runs }
 
 pub whole : (events : List Event) (i : ℕ) (ns : List Entry) (cs : List ClientState) → length events ≤ i → RunsKeeping start [] (take i events) ns cs → RunsKeeping start [] events ns cs
 whole events i ns cs le runs = subst (λ xs. RunsKeeping start [] xs ns cs) (take_all i events le) runs

@@ -1,5 +1,5 @@
 -- A run: what each event does to the clients, and what is logged of it, by the contracts of the calls.
-use Rattle.std.specs.Prelude.{◌≡◌, ℕ, ◌^◌, ◌<◌, nat_lt, if◌then◌else◌, List, [], ◌∷◌, ◌++◌, length, take, Option, Some, None, IfSome, is_some, option_and_then, slice_get, slice_set}
+use Rattle.std.specs.Prelude.{◌≡◌, ◌⊎◌, ℕ, ◌^◌, ◌<◌, nat_lt, if◌then◌else◌, List, [], ◌∷◌, ◌++◌, length, take, Option, Some, None, IfSome, is_some, option_and_then, slice_get, slice_set}
 use Rattle.std.specs.Option.{option_map, option_map_or}
 use Rattle.http_range.specs.Ask.{check_text}
 use Rattle.http_range.specs.Book.{Catalogue, HasDistinctTags}
@@ -19,7 +19,7 @@ use Rattle.world.specs.declared.event.AnsweredCheck.{AnsweredCheck}
 use Rattle.world.specs.declared.event.Effect.{Effect}
 use Rattle.world.specs.declared.event.Effect.TheVariants as effects
 use Rattle.world.specs.declared.event.Entry.{Entry}
-use Rattle.world.specs.World.{World, Seen, host, start, is_for, next_of, after, after_all, AtEach, IsTrueEntry, IsExactEntry, IsHonestEntry, AreAlike, AreOfBook}
+use Rattle.world.specs.World.{World, Seen, host, start, is_for, next_of, after, after_all, client_of, AtEach, IsTrueEntry, IsExactEntry, IsHonestEntry, AreAlike, AreOfBook}
 use Rattle.world.specs.Progress.{IsNeededEntry, AllReport}
 
 abbrev pub seen : ClientState → Seen
@@ -162,10 +162,22 @@ pub record IsTrueLog (events : List Event) (entries : List Entry) (left : List C
   pub honest : AtEach IsHonestEntry start events entries
   pub clients : AreOfBook left (after_all start events entries).book
 
--- It is the log of the first events, without the last, with all that is said of a whole one.
-pub record IsBeginning (events : List Event) (entries : List Entry) : Type 0 where
+-- no client changed but the one that is named, if one is
+abbrev pub LeavesOthers : Option ℕ → List ClientState → List ClientState → Type 0
+LeavesOthers None old new = new ≡ old
+LeavesOthers (Some i) old new = (new ≡ old) ⊎ ((next : ClientState) × (new ≡ slice_set old i next))
+
+-- An event that isn't logged was done, or it was left, and no client changed but its own.
+abbrev pub IsCutOff : World → List ClientState → Event → List ClientState → Type 0
+IsCutOff w old e new = ((n : Entry) × Step w old e n new) ⊎ LeavesOthers (client_of e) old new
+
+-- It is the log of the first events, with all that is said of a whole one; the clients that are left are those after these events, but
+-- for what the next event did before it was cut off.
+pub record IsBeginning (events : List Event) (entries : List Entry) (left : List ClientState) : Type 0 where
   pub count : ℕ
-  pub fewer : count < length events
   pub clients : List ClientState
   pub logged : Runs start [] (take count events) entries clients
   pub truth : IsTrueLog (take count events) entries clients
+  pub event : Event
+  pub next : slice_get events count ≡ Some event
+  pub cut_off : IsCutOff (after_all start (take count events) entries) clients event left

@@ -1,6 +1,6 @@
 -- What only the code's steps and their proofs need: what the calls of clients keep of the files that these know, and how the
 -- code holds the world.
-use Rattle.std.specs.Prelude.{◌≡◌, ℕ, ◌+◌, ◌^◌, ◌<◌, ⊤, nat_lt, if◌then◌else◌, List, [], ◌∷◌, ◌++◌, length, Option, Some, None, IfSome, slice_get, slice_set, option_and_then}
+use Rattle.std.specs.Prelude.{◌≡◌, ℕ, ◌+◌, ◌^◌, ◌<◌, ◌⊎◌, ⊤, nat_lt, if◌then◌else◌, List, [], ◌∷◌, ◌++◌, length, Option, Some, None, IfSome, slice_get, slice_set, take, option_and_then}
 use Rattle.std.specs.Option.{option_map}
 use Rattle.std.specs.Bool.{MatchBool}
 use Rattle.tiff_dir.specs.declared.query.Query.{Query}
@@ -24,7 +24,7 @@ use Rattle.world.specs.declared.event.AnsweredRequest.{AnsweredRequest}
 use Rattle.world.specs.declared.event.Effect.{Effect}
 use Rattle.world.specs.declared.event.Effect.TheVariants as effects
 use Rattle.world.specs.declared.event.Entry.{Entry}
-use Rattle.world.specs.World.{World, after, answer_in}
+use Rattle.world.specs.World.{World, after, after_all, answer_in, start}
 use Rattle.world.specs.Run.{Asks, AsksWith, AtClient, DeliversWith, ExchangesWith, IsCheckOf, Quiet, Step, cut_at, publish_effect, receiver, told_of}
 
 -- ---- what the calls keep
@@ -151,6 +151,23 @@ StopsStep w old (AskFrom i) new = StopsAt (slice_get old i) (λ c text. ⊥) i o
 StopsStep w old (Exchange i) new = StopsAt (slice_get old i) (IsGiven w.catalogue (length w.sent) i calls.Exchange) i old new
 StopsStep w old (Deliver i k cut) new = StopsDelivering (slice_get w.sent k) (slice_get old i) cut i old new
 StopsStep w old e new = new ≡ old
+
+-- an event that isn't logged was done, or it was left
+abbrev pub IsDoneOrLeft : World → List ClientState → Event → List ClientState → Type 0
+IsDoneOrLeft w old e new = ((n : Entry) × StepKeeping w old e n new) ⊎ StopsStep w old e new
+
+-- A run was left: this is what the first events made of the clients, and what the next one did to them, which isn't logged.
+pub record StopsWithin (events : List Event) (entries : List Entry) (left : List ClientState) : Type 0 where
+  pub count : ℕ
+  pub clients : List ClientState
+  pub runs : RunsKeeping start [] (take count events) entries clients
+  pub event : Event
+  pub next : slice_get events count ≡ Some event
+  pub stops : IsDoneOrLeft (after_all start (take count events) entries) clients event left
+
+-- each client agrees with the book in all that it holds
+abbrev pub AllAgree : List ClientState → Book → Type 0
+AllAgree clients book = (i : ℕ) → IfSome (slice_get clients i) (λ c. ClientAgrees c book)
 
 -- ---- the server
 

@@ -15,4 +15,5 @@ pub use cog_client::{
 };
 pub use cog_server::{Answer, PublishError};
 pub use event::{AnsweredCheck, AnsweredRequest, Effect, Entry, Event, Log};
-pub use world::{run, run_cut};
+pub use handing::Handing;
+pub use world::{run, run_cut, run_with};

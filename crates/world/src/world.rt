@@ -5,7 +5,7 @@ ghost use Rattle.http_range.specs.Book.{HasDistinctTags};
 ghost use Rattle.world.specs.World.{AreAlike, AreOfBook, AtEach, IsExactEntry, IsHonestEntry, IsTrueEntry, World, after_all, start};
 ghost use Rattle.world.specs.Progress.{AllReport, IsNeededEntry};
 ghost use Rattle.world.specs.Run.{IsBeginning, IsTrueLog, Runs};
-ghost use Rattle.world.specs.State.{Does, IsState, StopsStep};
+ghost use Rattle.world.specs.State.{AllAgree, Does, IsState, RunsKeeping, StopsStep, StopsWithin};
 
 use crate::answers::{answer_of, deliver_at, keep};
 use crate::calls::{Call, call_at, make_client};
@@ -68,18 +68,19 @@ pub fn run(alloc: Global, events: &[Event], log: &mut Log) -> Result<(), Memory>
     // schedule, and its blocks are that file's: after want of memory too, and then of one of the events before.
     ensures clients { AreOfBook log.new.clients.items (after_all start events.now log.new.entries.items).book }
 
-    // The entries, and the clients that the log leaves, are those that the schedule and the contracts of the clients' calls
-    // make: an event makes a client, or changes only the one that it names, and a report in an entry is that client's.
+    // The entries, and the clients that the log leaves, are those that the schedule makes and what a caller sees of the clients' calls:
+    // an event makes a client, or changes only the one that it names, and a report in an entry is that client's.
     ensures logged { OnOk result (Runs start [] events.now log.new.entries.items log.new.clients.items) }
 
-    // After want of memory the entries are those of as many first events, not of all, and of these all this holds.
-    ensures memory { OnErr result (IsBeginning events.now log.new.entries.items) }
+    // After want of memory the entries are those of as many first events, not of all, and of these all this holds. The clients are those
+    // after these events, but for what the next event did.
+    ensures memory { OnErr result (IsBeginning events.now log.new.entries.items log.new.clients.items) }
 {
-    run_by(alloc, events, Handing::Whole, log)
+    run_with(alloc, events, Handing::Whole, log)
 }
 
-/// Runs the events as `run` does, but hands each answer over in pieces of so many bytes, at least one each. All holds that holds of
-/// `run`.
+/// Runs the events as `run` does, but hands each answer over in pieces of `piece` bytes, at least one each. All holds that holds of
+/// `run`. A log can't show the size of the pieces, since a client takes an answer the same way however it is cut.
 pub fn run_cut(alloc: Global, events: &[Event], piece: usize, log: &mut Log) -> Result<(), Memory>
     requires entries { log.old.entries.items ≡ [] }
     requires clients { log.old.clients.items ≡ [] }
@@ -94,19 +95,27 @@ pub fn run_cut(alloc: Global, events: &[Event], piece: usize, log: &mut Log) -> 
     ensures honest { OnOk result (AtEach IsHonestEntry start events.now log.new.entries.items) }
     ensures clients { AreOfBook log.new.clients.items (after_all start events.now log.new.entries.items).book }
     ensures logged { OnOk result (Runs start [] events.now log.new.entries.items log.new.clients.items) }
-    ensures memory { OnErr result (IsBeginning events.now log.new.entries.items) }
+    ensures memory { OnErr result (IsBeginning events.now log.new.entries.items log.new.clients.items) }
 {
-    run_by(alloc, events, Handing::Pieces(piece), log)
+    run_with(alloc, events, Handing::Pieces(piece), log)
 }
 
-/// Runs the events, and hands answers over so.
-fn run_by(alloc: Global, events: &[Event], how: Handing, log: &mut Log) -> Result<(), Memory>
+/// Runs the events as `run` does, and hands each answer over as `how` says. Beside what `run` says of the log it says all that the
+/// contracts of the clients' calls say of each event, and what each client knows that the log leaves.
+pub fn run_with(alloc: Global, events: &[Event], how: Handing, log: &mut Log) -> Result<(), Memory>
     requires entries { log.old.entries.items ≡ [] }
     requires clients { log.old.clients.items ≡ [] }
     ensures truth { OnOk result (IsTrueLog events.now log.new.entries.items log.new.clients.items) }
     ensures logged { OnOk result (Runs start [] events.now log.new.entries.items log.new.clients.items) }
-    ensures memory { OnErr result (IsBeginning events.now log.new.entries.items) }
-    ensures left { OnErr result (AreOfBook log.new.clients.items (after_all start events.now log.new.entries.items).book) }
+    ensures kept { OnOk result (RunsKeeping start [] events.now log.new.entries.items log.new.clients.items) }
+
+    // Half-read directories, arrays and samples that a client holds are of the publication too: it can be gone on with.
+    ensures agree { AllAgree log.new.clients.items (after_all start events.now log.new.entries.items).book }
+    ensures left { AreOfBook log.new.clients.items (after_all start events.now log.new.entries.items).book }
+
+    // After want of memory the event that isn't logged was done whole, or left within one of its calls.
+    ensures memory { OnErr result (IsBeginning events.now log.new.entries.items log.new.clients.items) }
+    ensures stops { OnErr result (StopsWithin events.now log.new.entries.items log.new.clients.items) }
 {
     lower_laws();
     let mut server = Server::new(alloc, 0);

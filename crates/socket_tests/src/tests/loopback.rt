@@ -89,7 +89,7 @@ where
 fn text_of(alloc: Global, report: Option<&Report>) -> Result<Vec<u8>, Fail> {
     let report = report.ok_or("no report")?;
     match &report.outcome {
-        Outcome::Window(window) => Ok(picture(alloc, window)?),
+        Outcome::Window(_) => Ok(picture(alloc, report)?),
         Outcome::Info(info) => Ok(info_text(alloc, &report.tag, info)?),
         Outcome::Fault(_) => Err(Fail::new("a fault")),
     }

@@ -36,8 +36,9 @@ fn picture_of(
         w,
         h,
     };
-    match report_of(alloc, file, query)?.outcome {
-        Outcome::Window(window) => Ok(picture(alloc, &window)?),
+    let report = report_of(alloc, file, query)?;
+    match &report.outcome {
+        Outcome::Window(_) => Ok(picture(alloc, &report)?),
         _ => Err(Fail::new("no window")),
     }
 }

@@ -1,7 +1,7 @@
 use Rattle.std.proofs.Common.{take, []}
 use Rattle.world.specs.World.{start, after_all}
 use Rattle.world.specs.State.{IsState, RunsKeeping}
-use Rattle.world.proofs.world.run_by.Given as goal
+use Rattle.world.proofs.world.run_with.Given as goal
 
 -- what is logged so far is a run of the events so far, and the code's state is its world's
 abbrev pub invariant-loop-event : goal.invariant-loop-event
