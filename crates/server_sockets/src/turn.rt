@@ -5,7 +5,7 @@ ghost use Rattle.server_connections.specs.Table.{timed_at};
 ghost use Rattle.http_range.specs.Book.{Catalogue};
 ghost use Rattle.std.specs.declared.io.ErrorKind.TheVariants.{Interrupted, OutOfMemory, WouldBlock};
 ghost use Rattle.server_sockets.specs.Going.{AllWentOn};
-ghost use Rattle.server_sockets.specs.Turns.{HasEndedAt, IsDrainedAt, IsOpenAt, KeepsPlaces};
+ghost use Rattle.server_sockets.specs.Turns.{HasEndedAt, IsDrainedAt, IsOpenAt, IsTriedAt, KeepsPlaces};
 ghost use Rattle.server_sockets.specs.declared.turn.Turn.TheVariants.{Ended, GoesOn, Waits};
 
 use crate::answer_log::{AnswerLog, ConnectionLog};
@@ -160,6 +160,22 @@ pub fn serve_turn<A: AnswerLog>(
         }
     }
     Turn::GoesOn
+}
+
+/// Tries at moment `now` to write what waits on a connection. The outcome is `GoesOn` where its socket took bytes, and `Waits` where it
+/// took none.
+#[tactic(auto, using(crate::proofs::GoingLemmas::tries))]
+pub fn try_turn(connections: &mut Connections, socket: &ConnectionSocket, now: u64) -> Turn
+    ensures kept { KeepsPlaces socket.now.number connections.old connections.new }
+    // Nothing is answered, from whatever catalogue.
+    ensures went { (catalogue : Catalogue) → AllWentOn catalogue now connections.old.table.entries connections.new.table.entries }
+    ensures tried { IsTriedAt now socket.now.number connections.new.table.entries }
+    ensures outcome { result ≢ Ended }
+{
+    match write_some(connections, socket, WRITE_LIMIT, now) {
+        Ok(_) => Turn::GoesOn,
+        Err(error) => turn_of(&error).unwrap_or(Turn::GoesOn),
+    }
 }
 
 /// Drops the bytes that still come after the last message. The outcome is `Ended` once no more may come.
