@@ -264,7 +264,7 @@ impl OpenConnections {
             self.new.connections.table.entries }
         ensures tried { IsTriedAt now number self.new.connections.table.entries }
         ensures counted { self.new.ended ≡ self.old.ended }
-        ensures outcome { result ≢ Ended }
+        ensures ended { result ≡ Ended → HasEndedAt number self.new.connections.table.entries }
     {
         match self.peers.get(&number) {
             Some(peer) => try_turn(&mut self.connections, &peer.socket, now),
@@ -287,7 +287,8 @@ impl OpenConnections {
         ensures ended { result ≡ Ended → HasEndedAt number self.new.connections.table.entries
             ⊎ (DrainsAt number self.old × IsDrainedAt number self.new.connections.table.entries) }
         // One that has ended, or is read to its end, neither goes on nor waits.
-        ensures goes_on { result ≡ GoesOn → IsOpenAt number self.old.connections.table.entries
+        ensures goes_on { result ≡ GoesOn → (IsOpenAt number self.old.connections.table.entries
+            × IsOpenAt number self.new.connections.table.entries)
             ⊎ (DrainsAt number self.old × ¬ IsDrainedAt number self.old.connections.table.entries) }
         ensures waits { result ≡ Waits → IsOpenAt number self.new.connections.table.entries
             ⊎ ((DrainsAt number self.old × ¬ IsDrainedAt number self.new.connections.table.entries)
