@@ -4,9 +4,10 @@
 
 use programs::{Exit, run};
 use std::env;
+use std::fs::File;
 use std::io::ErrorKind;
 use std::process::ExitCode;
-use std::rt::Env;
+use std::rt::{Env, Files};
 
 /// The words of the command line, of which the first is the command's own name.
 fn words<R: Env + AllocGlobal>(rt: &R) -> Result<Vec<String>, Exit> {
@@ -17,7 +18,19 @@ fn words<R: Env + AllocGlobal>(rt: &R) -> Result<Vec<String>, Exit> {
     }
 }
 
+/// Opens a file that is always empty, for reading alone. Open files take the lowest descriptors that are free. So a standard descriptor
+/// that was closed becomes this file, and no socket takes its place. Reading from it finds the end, and writing to it fails, as before.
+fn take_descriptor<R: Files>(rt: &R) -> Option<R::File> {
+    File::open(rt, "/dev/null").ok()
+}
+
 fn main(rt: HostRuntime) -> ExitCode {
+    // They are held until the end: one for each standard descriptor that may be closed.
+    let _held = [
+        take_descriptor(&rt),
+        take_descriptor(&rt),
+        take_descriptor(&rt),
+    ];
     match words(&rt) {
         Ok(words) => ExitCode::from(run(&rt, &words)),
         Err(exit) => ExitCode::from(exit.tell(&rt, "cogtools")),

@@ -1,11 +1,15 @@
 -- An error that is handed on, and what is published of bytes that were read.
-use Rattle.std.proofs.Common.{◌≡◌, ◌≤◌, ◌+◌, ◌∙◌, ℕ, List, Result, Ok, Err, Some, IfErr, IfOk, IsErrAnd, ap, arith, length, subst, sym, take}
+use Rattle.std.proofs.Common.{◌≡◌, ◌≤◌, ◌+◌, ◌∙◌, ℕ, List, Result, Ok, Err, Some, IfErr, IfOk, IsErrAnd, ap, arith, inl, length, subst, sym, take}
 use Rattle.std.specs.Prelude.{MatchResult}
+use lib.ListN.{replicate}
 use Rattle.std.specs.Option.{option_map}
-use Rattle.std.proofs.lemmas.List.{take_all}
+use Rattle.std.proofs.lemmas.List.{length-replicate, take_all}
 use Rattle.http_range.specs.Book.{Catalogue, Publication, publish, published}
 use Rattle.http_range.specs.Laws.{PublishReplaces}
-use Rattle.cog_server.specs.Server.{ServerState}
+use Rattle.cog_server.specs.Server.{ServerState, refusal_of}
+use Rattle.cog_server.specs.declared.error.PublishError.{PublishError}
+use Rattle.disk_files.specs.Watching.{IsRefusedBy}
+use Rattle.disk_files.specs.declared.watched.WatchError.TheVariants.{Refused}
 use Rattle.disk_files.specs.Published.{IsFileOf}
 
 -- what holds of an error holds where it is handed on
@@ -37,3 +41,9 @@ file_there law name tag file s t is =
 -- so it is under the same name, with the same bytes
 pub file_as : (key name bytes whole : List ℕ) (s : ServerState) → key ≡ name → bytes ≡ whole → IsFileOf key bytes s → IsFileOf name whole s
 file_as key name bytes whole s same is there = subst (λ n. IsFileOf n whole s) same (subst (λ b. IsFileOf key b s) is there)
+
+-- where each file of a size is refused so, the refusal is one of the rules
+pub refused_by_size : (s : ServerState) (name : List ℕ) (size : ℕ) (refusal : PublishError)
+    → ((t : ServerState) (file : List ℕ) → length file ≡ size → refusal_of t.count t.catalogue name file ≡ Some refusal)
+    → IsRefusedBy s name (Refused refusal)
+refused_by_size s name size refusal by = (replicate size 0, inl (by s (replicate size 0) (length-replicate size 0)))

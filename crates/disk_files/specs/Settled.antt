@@ -1,4 +1,4 @@
--- When a change of a file shows in what the disk says of it.
+-- When a write of a file shows in what the disk says of it. A change through a mapping may never show.
 use Rattle.std.specs.Prelude.{ℕ, ℤ, pos, negsuc, ◌+◌, ◌*◌, ◌<◌, Option, Some, None, IsSomeAnd}
 
 -- a file that was changed then was left alone for more than two seconds; both are nanoseconds since 1970

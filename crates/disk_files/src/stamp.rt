@@ -1,4 +1,7 @@
-//! What the disk says of a file without reading it, and when each later change of the file shows in that.
+//! What the disk says of a file without reading it, and when each later write of the file shows in that.
+//!
+//! A write is a call like write(2), which sets the times of the file. A change through a mapping (mmap) sets no time while the page is
+//! changed already and isn't written back. So it may never show, and no stamp can find it.
 ghost use Rattle.std.specs.Prelude.{◌≡◌, ◌↔◌, IfSome, IsSomeAnd, IsTrue, Some};
 ghost use Rattle.std.specs.Duration.{as_nanos};
 ghost use Rattle.std.specs.Fs.{metadata_len};
@@ -37,7 +40,7 @@ fn moment(time: (i64, i64)) -> Option<Duration>
     Duration::from_secs(seconds).checked_add(Duration::from_nanos(nanos))
 }
 
-/// The stamp of a file that was looked at then or later, where each later change of its bytes shows in it.
+/// The stamp of a file that was looked at then or later, where each later write of its bytes shows in it.
 fn settled(stamp: Stamp, now: Duration) -> Option<Stamp>
     ensures same { IfSome result (λ kept. kept ≡ stamp) }
     ensures settled { IfSome result (λ kept. IsSettledSince kept.changed (as_nanos now)) }
@@ -49,7 +52,7 @@ fn settled(stamp: Stamp, now: Duration) -> Option<Stamp>
     }
 }
 
-/// What the disk says of a file that was looked at then or later, where each later change of its bytes shows in it.
+/// What the disk says of a file that was looked at then or later, where each later write of its bytes shows in it.
 pub fn stamp_of(metadata: &Metadata, now: Duration) -> Option<Stamp>
     ensures settled { IfSome result (λ stamp. IsSettledSince stamp.changed (as_nanos now)) }
     ensures length { IfSome result (λ stamp. stamp.length ≡ metadata_len metadata.now) }
@@ -64,7 +67,7 @@ pub fn stamp_of(metadata: &Metadata, now: Duration) -> Option<Stamp>
     settled(stamp, now)
 }
 
-/// Whether the disk says just the same of a file as before, in both where each later change shows.
+/// Whether the disk says just the same of a file as before, in both where each later write shows.
 pub fn is_unchanged(seen: Option<Stamp>, before: Option<Stamp>) -> bool
     ensures { IsTrue result ↔ IsSomeAnd seen (λ stamp. before ≡ Some stamp) }
 {

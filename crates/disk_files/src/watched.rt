@@ -1,5 +1,5 @@
 //! A file of the disk that is published, and when it has to be read again.
-ghost use Rattle.std.specs.Prelude.{◌≡◌, ◌≤◌, ℕ, List, IfErr, IfOk, IfSome, IsSome, IsSomeAnd, None, OnErr, OnOk, length};
+ghost use Rattle.std.specs.Prelude.{◌≡◌, ◌≤◌, ◌↔◌, ℕ, List, IfErr, IfOk, IfSome, IsSome, IsSomeAnd, None, OnErr, OnOk, Some, length};
 ghost use Rattle.std.specs.Duration.{as_nanos};
 ghost use Rattle.std.specs.Fs.{file_type, metadata_len};
 ghost use Rattle.std.specs.Fs.{IsFile as IsPlainFile};
@@ -10,11 +10,12 @@ ghost use Rattle.disk_files.specs.Given.{GivesAlways};
 ghost use Rattle.disk_files.specs.Published.{HasOther, IsFileOf, IsPublished};
 ghost use Rattle.disk_files.specs.Settled.{IsSettledSince};
 ghost use Rattle.disk_files.specs.Watching.{IsRefusedBy, MayPass, seen_of};
+ghost use Rattle.disk_files.specs.declared.watched.WatchError.TheVariants.{Refused};
 
 use crate::reading::{bytes_of, has_bytes};
 use crate::stamp::{Stamp, is_unchanged, stamp_of};
 use cog_server::{PublishError, Server};
-use http_range::{Tag, law_publications_replace};
+use http_range::{FILE_LIMIT, Tag, is_name, law_publications_replace};
 use std::alloc::Global;
 use std::fs::{self, File, Metadata, OpenFile};
 use std::io;
@@ -45,7 +46,7 @@ pub struct Watched<'a> {
     seen: Option<Stamp>,
 }
 
-/// What is remembered of what the disk says, if it is a file's: where each later change shows in it, by the moment that is known.
+/// What is remembered of what the disk says, if it is a file's: where each later write shows in it, by the moment that is known.
 fn remembered(metadata: &Metadata, now: Option<Duration>) -> Result<Option<Stamp>, WatchError>
     ensures settled { IfOk result (λ seen. IfSome seen (λ stamp. IsSomeAnd now (λ n. IsSettledSince stamp.changed (as_nanos n)))) }
     ensures length { IfOk result (λ seen. IfSome seen (λ stamp. stamp.length ≡ metadata_len metadata.now)) }
@@ -70,15 +71,33 @@ fn look<R: Files + Clock>(rt: &R, path: &str) -> Result<Option<Stamp>, WatchErro
     remembered(&metadata, now)
 }
 
-/// Opens the file that a path leads to by now, which may be another one than was looked at, and looks at what is open.
-fn open<R: Files + Clock>(rt: &R, path: &str) -> Result<(R::File, Option<Stamp>), WatchError>
+/// Opens the file that a path leads to by now, which may be another one than was looked at, and looks at what is open. Returns its length
+/// in bytes, too.
+fn open<R: Files + Clock>(rt: &R, path: &str) -> Result<(R::File, Option<Stamp>, u64), WatchError>
     ensures refused { (s : ServerState) (name : List ℕ) → IfErr result (IsRefusedBy s name) }
 {
     let now = rt.since_1970().ok();
     let file = File::open(rt, path).map_err(WatchError::CantRead)?;
     let metadata = file.metadata().map_err(WatchError::CantRead)?;
     let seen = remembered(&metadata, now)?;
-    Ok((file, seen))
+    Ok((file, seen, metadata.len()))
+}
+
+/// Returns why a server refuses each file of `size` bytes under a name, where its length decides. No byte of the file is needed.
+fn refusal_by_length(name: &[u8], size: u64) -> Option<PublishError>
+    ensures small { result ≡ None ↔ (size ≤ FILE_LIMIT) }
+    ensures refused { (s : ServerState) (file : List ℕ) → length file ≡ size
+        → IfSome result (λ refusal. refusal_of s.count s.catalogue name.now file ≡ Some refusal) }
+    ensures lasting { IfSome result (λ refusal. ¬ MayPass (Refused refusal)) }
+{
+    if size <= FILE_LIMIT as u64 {
+        return None;
+    }
+    if is_name(name) {
+        Some(PublishError::TooLarge)
+    } else {
+        Some(PublishError::Name)
+    }
 }
 
 /// Publishes a file, unless the one under its name has the same bytes.
@@ -188,7 +207,8 @@ impl<'a> Watched<'a> {
         }
     }
 
-    /// Reads the file and publishes what it read. An error changes nothing of the server.
+    /// Reads the file and publishes what it read. An error changes nothing of the server. A file that is too large by its length is refused
+    /// unread.
     pub fn publish<R: Files + Clock + AllocGlobal>(
         &mut self,
         rt: &R,
@@ -203,12 +223,15 @@ impl<'a> Watched<'a> {
         ensures path { self.new.path ≡ self.old.path }
     {
         look(rt, self.path)?;
-        let (file, seen) = open(rt, self.path)?;
+        let (file, seen, size) = open(rt, self.path)?;
+        if let Some(refusal) = refusal_by_length(self.name.as_bytes(), size) {
+            return Err(WatchError::Refused(refusal));
+        }
         self.publish_all_of(rt.alloc(), server, file, seen)
     }
 
     /// Publishes the file if its bytes changed. One that can't be read, or is refused, keeps its old publication. It isn't
-    /// read where the disk says the same of it as when it was last read.
+    /// read where the disk says the same of it as when it was last read, nor where it is too large by its length.
     pub fn publish_changed<R: Files + Clock + AllocGlobal>(
         &mut self,
         rt: &R,
@@ -232,7 +255,11 @@ impl<'a> Watched<'a> {
             return Ok(None);
         }
         // What is remembered is of the file whose bytes are read: the path may lead elsewhere by now.
-        let (file, seen) = open(rt, self.path)?;
+        let (file, seen, size) = open(rt, self.path)?;
+        if let Some(refusal) = refusal_by_length(self.name.as_bytes(), size) {
+            self.seen = seen;
+            return Err(WatchError::Refused(refusal));
+        }
         self.publish_other_of(rt.alloc(), server, file, seen)
     }
 }

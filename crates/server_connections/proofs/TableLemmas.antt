@@ -1,5 +1,5 @@
 -- The table of connections.
-use Rattle.std.proofs.Common.{◌≡◌, ◌≢◌, ℕ, ◌+◌, ◌-◌, ◌<◌, ◌≤◌, Bool, true, false, cond, nat_eq, [], ◌∷◌, length, take, Option, Some, None, Result, Ok, Err, refl, sym, ap, ◌∙◌, subst, arith, inl, inr}
+use Rattle.std.proofs.Common.{◌≡◌, ◌≢◌, ℕ, ◌+◌, ◌-◌, ◌<◌, ◌≤◌, true, false, cond, nat_eq, [], ◌∷◌, length, take, Option, Some, None, Result, Ok, Err, refl, sym, ap, ◌∙◌, subst, arith, inl, inr}
 use Rattle.std.specs.Prelude.{Contains, if◌then◌else◌, OnErr, option_map, is_some}
 use Rattle.std.specs.Map.{lookup_entry, remove_entry, set_value}
 use Rattle.std.proofs.lemmas.Bool.{cases_Bool}
@@ -67,11 +67,11 @@ pub goes_nowhere : (catalogue : Catalogue) (k now : ℕ) (o : Option Timed) (tab
 goes_nowhere catalogue k now o table none = subst (λ (x : Option Timed). GoesOnAt catalogue k now x table table None) (sym none) (refl, refl)
 
 pub goes_on_at : (catalogue : Catalogue) (k now : ℕ) (table : Table) (p w : Timed) (status : Option ℕ) → timed_at k table ≡ Some p
-    → GoesOn catalogue p.connection w.connection status → w.progress ≡ (if is_some status then now else p.progress)
+    → GoesOn catalogue p.connection w.connection status → w.progress ≡ (if is_some status then now else p.progress) → w.tried ≡ p.tried
     → GoesOnAt catalogue k now (timed_at k table) table (set_value (nat_eq k) table w) status
-goes_on_at catalogue k now table p w status found goes progress =
-    let same : w ≡ record { connection = w.connection; progress = if is_some status then now else p.progress } =
-    ap (λ (n : ℕ). record { connection = w.connection; progress = n }) progress in
+goes_on_at catalogue k now table p w status found goes progress tried =
+    let same : w ≡ record { connection = w.connection; progress = if is_some status then now else p.progress; tried = p.tried } =
+    λ i. record { connection = w.connection; progress = progress i; tried = tried i } in
     let b = becomes k table p w found in
     subst (λ (x : Option Timed). GoesOnAt catalogue k now x table (set_value (nat_eq k) table w) status) (sym found)
     (w.connection, goes, record { here = b.here ∙ ap Some same; others = b.others })

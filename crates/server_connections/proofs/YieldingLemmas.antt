@@ -7,7 +7,7 @@ use Rattle.lru.proofs.Splits.{Contains-head}
 use Rattle.server_connections.specs.declared.timed.Timed.{Timed}
 use Rattle.server_connections.specs.declared.candidate.Candidate.{Candidate}
 use Rattle.server_connections.specs.Table.{AreFalling, Table, timed_at}
-use Rattle.server_connections.specs.Yielding.{Finds, IsLongest, is_longer, passes}
+use Rattle.server_connections.specs.Yielding.{Finds, IsLongest, is_longer, passes, since}
 use Rattle.server_connections.proofs.TableLemmas.{found_there}
 
 apart : {A : Type 0} (b : Bool) → b ≡ true → b ≡ false → A
@@ -26,44 +26,47 @@ passed_by candidate seen k p (Some f) isnt h = record {
   there = Contains-append_left seen ((k, p) ∷ []) (f.0, h.timed) h.there;
   passing = h.passing;
   at = h.at;
-  longest = All-append (λ e. passes candidate e.1 ≡ true → f.1 ≤ e.1.progress) seen ((k, p) ∷ []) h.longest
-      (one (λ e. passes candidate e.1 ≡ true → f.1 ≤ e.1.progress) (k, p) (λ is. apart (passes candidate p) is isnt));
+  longest = All-append (λ e. passes candidate e.1 ≡ true → f.1 ≤ since candidate e.1) seen ((k, p) ∷ []) h.longest
+      (one (λ e. passes candidate e.1 ≡ true → f.1 ≤ since candidate e.1) (k, p) (λ is. apart (passes candidate p) is isnt));
 }
 
-pub later : (candidate : Candidate) (seen : Table) (k : ℕ) (p : Timed) (f : ℕ × ℕ) → f.1 ≤ p.progress → Finds candidate seen (Some f)
+pub later : (candidate : Candidate) (seen : Table) (k : ℕ) (p : Timed) (f : ℕ × ℕ) → f.1 ≤ since candidate p → Finds candidate seen (Some f)
     → Finds candidate (seen ++ (k, p) ∷ []) (Some f)
 later candidate seen k p f after h = record {
   timed = h.timed;
   there = Contains-append_left seen ((k, p) ∷ []) (f.0, h.timed) h.there;
   passing = h.passing;
   at = h.at;
-  longest = All-append (λ e. passes candidate e.1 ≡ true → f.1 ≤ e.1.progress) seen ((k, p) ∷ []) h.longest
-      (one (λ e. passes candidate e.1 ≡ true → f.1 ≤ e.1.progress) (k, p) (λ _. after));
+  longest = All-append (λ e. passes candidate e.1 ≡ true → f.1 ≤ since candidate e.1) seen ((k, p) ∷ []) h.longest
+      (one (λ e. passes candidate e.1 ≡ true → f.1 ≤ since candidate e.1) (k, p) (λ _. after));
 }
 
 -- it is one of those, and has waited longer than all before it
 earlier : (candidate : Candidate) (seen : Table) (n : ℕ) (found : Option (ℕ × ℕ)) → is_longer found n ≡ true → Finds candidate seen found
-    → All (λ e. passes candidate e.1 ≡ true → n ≤ e.1.progress) seen
+    → All (λ e. passes candidate e.1 ≡ true → n ≤ since candidate e.1) seen
 earlier candidate seen n None is h = λ i d lt passing. apart (passes candidate (slice_index_or seen i d).1) passing (h i d lt)
 earlier candidate seen n (Some f) is h = λ i d lt passing.
     let less : n < f.1 = grind (arith, nat_tests) in let after = h.longest i d lt passing in omega (arith, less, after)
 
-pub taken : (candidate : Candidate) (seen : Table) (k : ℕ) (p : Timed) (found : Option (ℕ × ℕ)) → passes candidate p ≡ true
-    → is_longer found p.progress ≡ true → Finds candidate seen found → Finds candidate (seen ++ (k, p) ∷ []) (Some (k, p.progress))
-taken candidate seen k p found passing is h = record {
+pub taken : (candidate : Candidate) (seen : Table) (k : ℕ) (p : Timed) (n : ℕ) (found : Option (ℕ × ℕ)) → n ≡ since candidate p → passes candidate p ≡ true
+    → is_longer found n ≡ true → Finds candidate seen found → Finds candidate (seen ++ (k, p) ∷ []) (Some (k, n))
+taken candidate seen k p n found at passing is h = record {
   timed = p;
   there = Contains-append_right seen ((k, p) ∷ []) (k, p) (Contains-head (k, p) []);
   passing = passing;
-  at = refl;
-  longest = All-append (λ e. passes candidate e.1 ≡ true → p.progress ≤ e.1.progress) seen ((k, p) ∷ []) (earlier candidate seen p.progress found is h)
-      (one (λ e. passes candidate e.1 ≡ true → p.progress ≤ e.1.progress) (k, p) (λ _. omega arith));
+  at = sym at;
+  longest = All-append (λ e. passes candidate e.1 ≡ true → n ≤ since candidate e.1) seen ((k, p) ∷ []) (earlier candidate seen n found is h)
+      (one (λ e. passes candidate e.1 ≡ true → n ≤ since candidate e.1) (k, p) (λ _. omega (arith, at)));
 }
 
 -- it has waited no longer
-pub kept : (candidate : Candidate) (seen : Table) (k : ℕ) (p : Timed) (found : Option (ℕ × ℕ)) → is_longer found p.progress ≡ false
-    → Finds candidate seen found → Finds candidate (seen ++ (k, p) ∷ []) found
-kept candidate seen k p None is h = apart true refl is
-kept candidate seen k p (Some f) is h = later candidate seen k p f (let no_less : nat_lt p.progress f.1 ≡ false = is in grind (arith, nat_tests)) h
+pub kept : (candidate : Candidate) (seen : Table) (k : ℕ) (p : Timed) (n : ℕ) (found : Option (ℕ × ℕ)) → n ≡ since candidate p
+    → is_longer found n ≡ false → Finds candidate seen found → Finds candidate (seen ++ (k, p) ∷ []) found
+kept candidate seen k p n None at is h = apart true refl is
+kept candidate seen k p n (Some f) at is h =
+    let no_less : nat_lt n f.1 ≡ false = is in
+    let after : f.1 ≤ n = grind (arith, nat_tests) in
+    later candidate seen k p f (omega (arith, at, after)) h
 
 -- one more is seen, and so many are left
 pub goes_behind : (seen left rest all : Table) (e : ℕ × Timed) → seen ++ left ≡ all → left ≡ e ∷ rest → (seen ++ e ∷ []) ++ rest ≡ all

@@ -26,17 +26,17 @@ pub record Becomes (k : ℕ) (timed : Option Timed) (old new : Table) : Type 0 w
   pub here : timed_at k new ≡ timed
   pub others : OthersStay k old new
 
--- bytes of what waits are written, which is progress where there are any
+-- it is tried to write, and bytes of what waits are written, which is progress where there are any
 abbrev pub timed_after_write : ℕ → ℕ → Timed → Timed
 timed_after_write n now p =
-    record { connection = after_write n p.connection; progress = if n == 0 then p.progress else now }
+    record { connection = after_write n p.connection; progress = if n == 0 then p.progress else now; tried = now }
 
 -- connection k goes on, if there is one; with a status its next message is answered
 abbrev pub GoesOnAt : Catalogue → ℕ → ℕ → Option Timed → Table → Table → Option ℕ → Type 0
 GoesOnAt catalogue k now None old new status = (status ≡ None) × (new ≡ old)
 GoesOnAt catalogue k now (Some p) old new status =
     (s : Status) × GoesOn catalogue p.connection s status
-    × Becomes k (Some (record { connection = s; progress = if is_some status then now else p.progress })) old new
+    × Becomes k (Some (record { connection = s; progress = if is_some status then now else p.progress; tried = p.tried })) old new
 
 -- the connections stand as they came, the newest first: their numbers fall, from below this one on
 abbrev pub AreFalling : ℕ → Table → Type 0

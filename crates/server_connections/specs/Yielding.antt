@@ -1,28 +1,57 @@
 -- Which connection a newcomer to a full table takes the place of.
-use Rattle.std.specs.Prelude.{◌≡◌, ◌⊎◌, ◌≤◌, ◌+◌, ◌-◌, ◌^◌, ℕ, nat_le, nat_lt, Bool, true, false, Option, Some, None, Contains, All}
+use Rattle.std.specs.Prelude.{◌≡◌, ◌⊎◌, ◌≤◌, ◌+◌, ◌-◌, ◌/◌, ◌^◌, ◌==◌, ◌&&◌, ◌||◌, ℕ, nat_le, nat_lt, not, length, Bool, true, false, Option, Some, None, Contains, All}
 use Rattle.cog_server.specs.Status.{is_draining, is_idle}
 use Rattle.server_connections.specs.declared.timed.Timed.{Timed}
 use Rattle.server_connections.specs.declared.candidate.Candidate.{Candidate}
-use Rattle.server_connections.specs.declared.candidate.Candidate.TheVariants.{Draining, Idle, Stuck, Any}
+use Rattle.server_connections.specs.declared.candidate.Candidate.TheVariants.{Draining, Idle, Stuck, Untried, Waiting, Any}
 use Rattle.server_connections.specs.Table.{Table}
 
--- it is such a connection: it drains, is idle, or has made no progress for as long as the patience
+-- bytes wait on it
+abbrev pub has_waiting : Timed → Bool
+has_waiting p = not (length p.connection.waiting == 0)
+
+-- it has made no progress for as long as the patience, and where bytes wait on it, its socket was tried at this very moment
+abbrev pub is_stuck : ℕ → ℕ → Timed → Bool
+is_stuck now patience p = nat_le patience (now - p.progress) && (p.tried == now || not (has_waiting p))
+
+-- half of the patience: the most that passes between two tries of a socket while a newcomer waits
+abbrev pub half_of : ℕ → ℕ
+half_of patience = patience - patience / 2
+
+-- Bytes wait on it, and its socket is to be tried at this moment: half of the patience has passed since the last try, or it has made no
+-- progress for as long as the patience.
+abbrev pub is_untried : ℕ → ℕ → Timed → Bool
+is_untried now patience p =
+    (nat_le (half_of patience) (now - p.tried) || (nat_le patience (now - p.progress) && not (p.tried == now))) && has_waiting p
+
+-- it is such a connection: it drains, is idle, is stuck, has a socket to be tried, or has bytes that wait
 abbrev pub passes : Candidate → Timed → Bool
 passes Draining p = is_draining p.connection
 passes Idle p = is_idle p.connection
-passes (Stuck now patience) p = nat_le patience (now - p.progress)
+passes (Stuck now patience) p = is_stuck now patience p
+passes (Untried now patience) p = is_untried now patience p
+passes Waiting p = has_waiting p
 passes Any p = true
+
+-- the moment from which its wait counts: of the last try where sockets are tried, and else of the last progress
+abbrev pub since : Candidate → Timed → ℕ
+since Draining p = p.progress
+since Idle p = p.progress
+since (Stuck now patience) p = p.progress
+since (Untried now patience) p = p.tried
+since Waiting p = p.tried
+since Any p = p.progress
 
 abbrev pub HasNone : Candidate → Table → Type 0
 HasNone candidate table = All (λ e. passes candidate e.1 ≡ false) table
 
--- of those in the table it is the one whose last progress, at this moment, is the longest ago
+-- of those in the table it is the one that waits since this moment, the longest
 pub record IsLongest (candidate : Candidate) (table : Table) (k moment : ℕ) : Type 0 where
   pub timed : Timed
   pub there : Contains table (k, timed)
   pub passing : passes candidate timed ≡ true
-  pub at : timed.progress ≡ moment
-  pub longest : All (λ e. passes candidate e.1 ≡ true → moment ≤ e.1.progress) table
+  pub at : since candidate timed ≡ moment
+  pub longest : All (λ e. passes candidate e.1 ≡ true → moment ≤ since candidate e.1) table
 
 -- a moment that is longer ago than that of the one that was found
 abbrev pub is_longer : Option (ℕ × ℕ) → ℕ → Bool
@@ -44,7 +73,8 @@ MayYield now patience p =
     (passes Draining p ≡ true) ⊎ ((passes Idle p ≡ true) ⊎ (passes (Stuck now patience) p ≡ true))
 
 -- Whose place a newcomer takes: of one that drains; or else of an idle one; or else of one that has made no progress within the
--- patience; among these always of the one that waits longest. None is that there is no such one, and the newcomer waits.
+-- patience, and whose socket takes nothing now; among these always of the one that waits longest. None is that there is no such one, and
+-- the newcomer waits.
 abbrev pub Yields : ℕ → ℕ → Table → Option ℕ → Type 0
 Yields now patience table (Some k) =
     WaitsLongest Draining table k
@@ -59,3 +89,16 @@ WakesAt patience table (Some wake) =
     (k : ℕ) × (moment : ℕ) × IsLongest Any table k moment × (wake ≡ moment + patience)
 WakesAt patience table None =
     HasNone Any table ⊎ ((k : ℕ) × (moment : ℕ) × IsLongest Any table k moment × (2 ^ 64 ≤ moment + patience))
+
+-- Whose socket is to be tried at this moment: of those whose is, the one that was tried the longest ago. None is that no one's is.
+abbrev pub IsUntried : ℕ → ℕ → Table → Option ℕ → Type 0
+IsUntried now patience table (Some k) = WaitsLongest (Untried now patience) table k
+IsUntried now patience table None = HasNone (Untried now patience) table
+
+-- The first moment at which half of the patience will have passed since a socket was tried for which bytes wait. None is that no bytes
+-- wait, or that no number of 64 bits tells the moment.
+abbrev pub TriesAt : ℕ → Table → Option ℕ → Type 0
+TriesAt patience table (Some try) =
+    (k : ℕ) × (moment : ℕ) × IsLongest Waiting table k moment × (try ≡ moment + half_of patience)
+TriesAt patience table None =
+    HasNone Waiting table ⊎ ((k : ℕ) × (moment : ℕ) × IsLongest Waiting table k moment × (2 ^ 64 ≤ moment + half_of patience))

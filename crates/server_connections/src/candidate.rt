@@ -1,10 +1,19 @@
 //! Connections that may be closed for a new one.
 
-/// The connections among which one is sought. They drain, are idle, have made no progress for `patience` at moment `now`, or are any.
+/// The connections among which one is sought.
 #[derive(Clone, Copy)]
 pub enum Candidate {
+    /// One whose last answer is written.
     Draining,
+    /// One where no message has begun, and no answer is unfinished.
     Idle,
+    /// One that has made no progress for `patience` at moment `now`. If bytes wait on it, its socket was tried at that moment.
     Stuck { now: u64, patience: u64 },
+    /// One on which bytes wait, and whose socket is to be tried at moment `now`: it was tried half of `patience` ago. It is to be tried
+    /// also before it is stuck.
+    Untried { now: u64, patience: u64 },
+    /// One on which bytes wait.
+    Waiting,
+    /// Any one.
     Any,
 }

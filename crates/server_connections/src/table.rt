@@ -4,11 +4,11 @@ ghost use Rattle.std.specs.Map.{remove_entry};
 ghost use Rattle.std.specs.NonZero.{non_zero_usize_get};
 ghost use Rattle.cog_server.specs.Status.{Rests, start, room_of, after_bytes, after_end, is_closing};
 ghost use Rattle.server_connections.specs.Table.{AreFalling, Becomes, Changes, GoesOnAt, OthersStay, falling_once, timed_after_write, timed_at};
-ghost use Rattle.server_connections.specs.Yielding.{MayYield, WakesAt, Yields};
+ghost use Rattle.server_connections.specs.Yielding.{IsUntried, MayYield, TriesAt, WakesAt, Yields};
 
 use crate::candidate::Candidate;
 use crate::timed::Timed;
-use crate::yielding::longest;
+use crate::yielding::{half_of, longest};
 use cog_server::{Connection, Server};
 use http_range::Memory;
 use lru::LruCache;
@@ -96,7 +96,8 @@ impl Connections {
         timed.came_to_end();
     }
 
-    /// Notes at moment `now` that `n` bytes of those that wait on connection `number` are written.
+    /// Notes that it was tried at moment `now` to write to the socket of connection `number`, and that `n` bytes of those that wait on it
+    /// are written.
     pub fn wrote(&mut self, number: u64, n: usize, now: u64)
         requires { IfSome (timed_at number self.old.table.entries) (λ p. n ≤ length p.connection.waiting) }
         ensures table { Changes number (timed_after_write n now) self.old.table.entries self.new.table.entries }
@@ -144,7 +145,7 @@ impl Connections {
         requires { length self.old.table.entries < self.old.table.cap }
         ensures number { IfOk result (λ number. number ≡ self.old.next) }
         ensures unused { IfOk result (λ number. timed_at number self.old.table.entries ≡ None) }
-        ensures table { IfOk result (λ number. Becomes number (Some (record { connection = start; progress = now }))
+        ensures table { IfOk result (λ number. Becomes number (Some (record { connection = start; progress = now; tried = now }))
             self.old.table.entries self.new.table.entries) }
         ensures next { OnOk result (self.new.next ≡ self.old.next + 1) }
         ensures grows { OnOk result (length self.new.table.entries ≡ length self.old.table.entries + 1) }
@@ -160,6 +161,7 @@ impl Connections {
         let timed = Timed {
             connection,
             progress: now,
+            tried: now,
         };
         self.table.push(number, timed)?;
         self.next = number + 1;
@@ -168,7 +170,8 @@ impl Connections {
 
     /// Returns the number of the connection that yields its slot at moment `now`, or `None` where each keeps its own. One that drains
     /// yields first, then one that is idle, then one without progress for `patience` milliseconds. A connection drains once its last
-    /// answer is written. It is idle where no message has begun and no answer is unfinished. In a table of one, the slot is never taken.
+    /// answer is written. It is idle where no message has begun and no answer is unfinished. One on which bytes wait yields only where its
+    /// socket was tried at moment `now`, and took none. In a table of one, the slot is never taken.
     pub fn yields(&self, now: u64, patience: u64) -> Option<u64>
         ensures one { self.now.table.cap ≡ 1 → result ≡ None }
         ensures many { self.now.table.cap ≢ 1 → Yields now patience self.now.table.entries result }
@@ -187,6 +190,23 @@ impl Connections {
             Some((number, _moment)) => Some(number),
             None => None,
         }
+    }
+
+    /// Returns the number of a connection whose socket is to be tried at moment `now`, or `None` where none is. Bytes wait on it. It was
+    /// last tried half of `patience` ago, or has made no progress for `patience` milliseconds. Of several it is the one tried longest ago.
+    pub fn untried(&self, now: u64, patience: u64) -> Option<u64>
+        ensures { IsUntried now patience self.now.table.entries result }
+    {
+        let (number, _moment) = longest(&self.table, Candidate::Untried { now, patience })?;
+        Some(number)
+    }
+
+    /// Returns the first moment at which half of `patience` will have passed since a socket was tried for which bytes wait.
+    pub fn tries_at(&self, patience: u64) -> Option<u64>
+        ensures { TriesAt patience self.now.table.entries result }
+    {
+        let (_number, moment) = longest(&self.table, Candidate::Waiting)?;
+        moment.checked_add(half_of(patience))
     }
 
     /// Returns the first moment at which a connection will have made no progress for `patience` milliseconds.

@@ -5,11 +5,14 @@ ghost use Rattle.cog_server.specs.Status.{GoesOn, Rests, after_bytes, after_end,
 use cog_server::{Connection, Server};
 use http_range::Memory;
 
-/// A connection, and the moment of its last progress: it was accepted, a message was answered, or a byte of an answer taken.
+/// A connection, and the moments at which it made progress and at which its socket was tried.
 #[derive(Drop)]
 pub struct Timed {
     pub connection: Connection,
+    /// The moment of its last progress: it was accepted, a message was answered, or a byte of an answer taken.
     pub progress: u64,
+    /// The moment at which it was last tried to write to its socket, or at which it was accepted.
+    pub tried: u64,
 }
 
 impl Timed {
@@ -35,6 +38,7 @@ impl Timed {
     pub fn go_on(&mut self, server: &Server, now: u64) -> Result<Option<u16>, Memory>
         ensures ok { IfOk result (GoesOn server.now.catalogue self.old.connection self.new.connection) }
         ensures progress { IfOk result (λ status. self.new.progress ≡ (if is_some status then now else self.old.progress)) }
+        ensures tried { self.new.tried ≡ self.old.tried }
         ensures err { OnErr result (self.new ≡ self.old) }
         ensures wants { OnErr result (¬ Rests self.old.connection) }
     {
@@ -45,13 +49,15 @@ impl Timed {
         Ok(status)
     }
 
-    /// Notes that `n` bytes are written at moment `now`, which is progress unless `n` is 0.
+    /// Notes that it was tried at moment `now` to write to the socket, and that `n` bytes are written. That is progress unless `n` is 0.
     pub fn wrote(&mut self, n: usize, now: u64)
         requires { n ≤ length self.old.connection.waiting }
         ensures connection { self.new.connection ≡ after_write n self.old.connection }
         ensures progress { self.new.progress ≡ (if n == 0 then self.old.progress else now) }
+        ensures tried { self.new.tried ≡ now }
     {
         self.connection.wrote(n);
+        self.tried = now;
         if n > 0 {
             self.progress = now;
         }

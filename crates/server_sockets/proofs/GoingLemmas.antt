@@ -11,10 +11,11 @@ use Rattle.http_range.specs.Book.{Catalogue}
 use Rattle.cog_server.specs.Received.{after_read}
 use Rattle.cog_server.specs.Run.{AreFrom, CanHappen, CanRun, Event, Exchange, Past, happened, run}
 use Rattle.cog_server.specs.Run.Event.{Came, Came_to_end, Answered, Wrote}
-use Rattle.cog_server.specs.Status.{after_answer, after_bytes, after_end, after_write, room_of}
+use Rattle.cog_server.specs.Status.{EndsBy, after_answer, after_bytes, after_end, after_write, room_of}
 use Rattle.server_connections.specs.declared.timed.Timed.{Timed}
 use Rattle.server_connections.specs.Table.{Becomes, Changes, GoesOnAt, OthersStay, Table, timed_after_write, timed_at}
-use Rattle.server_sockets.specs.Going.{AllWentOn, WentOn, is_progress, since}
+use Rattle.server_sockets.specs.Going.{AllWentOn, WentOn, is_progress, is_try, since}
+use Rattle.server_sockets.specs.Turns.{IsOpenAt, IsTriedAt}
 
 -- ---- runs one behind another
 
@@ -81,7 +82,7 @@ from_behind catalogue (Wrote n ∷ es) p q first next =
 -- ---- one connection
 
 still : (catalogue : Catalogue) (now : ℕ) (p : Timed) → WentOn catalogue now p p
-still catalogue now p = record { events = []; can = tt; from = tt; connection = refl; progress = refl }
+still catalogue now p = record { events = []; can = tt; from = tt; connection = refl; progress = refl; tried = refl }
 
 either : (a b : Bool) (now old : ℕ) → (if b then now else (if a then now else old)) ≡ (if a || b then now else old)
 either true true now old = refl
@@ -96,6 +97,7 @@ went_on catalogue now p q r first next =
     let again = since q.connection in
     let whole = run_append first.events next.events begin in
     let progress = list_any-append is_progress first.events next.events in
+    let tried = list_any-append is_try first.events next.events in
     record {
       events = first.events ++ next.events;
       can = can_append first.events next.events begin first.can (same_can next.events again middle first.connection next.can);
@@ -105,13 +107,17 @@ went_on catalogue now p q r first next =
       progress = next.progress ∙ ap (λ (n : ℕ). if list_any is_progress next.events then now else n) first.progress
           ∙ either (list_any is_progress first.events) (list_any is_progress next.events) now p.progress
           ∙ ap (λ (b : Bool). if b then now else p.progress) (sym progress);
+      tried = next.tried ∙ ap (λ (n : ℕ). if list_any is_try next.events then now else n) first.tried
+          ∙ either (list_any is_try first.events) (list_any is_try next.events) now p.tried
+          ∙ ap (λ (b : Bool). if b then now else p.tried) (sym tried);
     }
 
 read : (catalogue : Catalogue) (now : ℕ) (p : Timed) (bytes : List ℕ) → length bytes ≤ room_of p.connection
     → WentOn catalogue now p (record p { connection = after_read bytes p.connection })
-read catalogue now p [] room = record { events = Came_to_end ∷ []; can = (tt, tt); from = tt; connection = refl; progress = refl }
+read catalogue now p [] room =
+    record { events = Came_to_end ∷ []; can = (tt, tt); from = tt; connection = refl; progress = refl; tried = refl }
 read catalogue now p (b ∷ bytes) room =
-    record { events = Came (b ∷ bytes) ∷ []; can = (room, tt); from = tt; connection = refl; progress = refl }
+    record { events = Came (b ∷ bytes) ∷ []; can = (room, tt); from = tt; connection = refl; progress = refl; tried = refl }
 
 written : (none : Bool) (now old : ℕ) → (if none then old else now) ≡ (if not none || false then now else old)
 written true now old = refl
@@ -120,7 +126,7 @@ written false now old = refl
 wrote : (catalogue : Catalogue) (now : ℕ) (p : Timed) (n : ℕ) → n ≤ length p.connection.waiting
     → WentOn catalogue now p (timed_after_write n now p)
 wrote catalogue now p n few =
-    record { events = Wrote n ∷ []; can = (few, tt); from = tt; connection = refl; progress = written (n == 0) now p.progress }
+    record { events = Wrote n ∷ []; can = (few, tt); from = tt; connection = refl; progress = written (n == 0) now p.progress; tried = refl }
 
 -- ---- tables
 
@@ -217,6 +223,34 @@ written_on catalogue now k n old new changes few =
     changed catalogue now k (timed_after_write n now) old new changes
     (if_some (timed_at k old) (λ p fits. wrote catalogue now p n fits) few)
 
+-- it was tried to write, and none were taken
+pub tried_on : (catalogue : Catalogue) (now k : ℕ) (old new : Table) → Changes k (timed_after_write 0 now) old new
+    → AllWentOn catalogue now old new
+tried_on catalogue now k old new changes =
+    written_on catalogue now k 0 old new changes (all_there (timed_at k old) (λ p. omega arith))
+
+mapped : (Q : Timed → Type 0) (f : Timed → Timed) (o r : Option Timed) → r ≡ option_map f o → ((p : Timed) → Q (f p)) → IfSome r Q
+mapped Q f None r is all = subst (λ (x : Option Timed). IfSome x Q) (sym is) tt
+mapped Q f (Some p) r is all = subst (λ (x : Option Timed). IfSome x Q) (sym is) (all p)
+
+-- its socket was tried
+pub tried_by : (now k n : ℕ) (old new : Table) → Changes k (timed_after_write n now) old new → IsTriedAt now k new
+tried_by now k n old new changes =
+    mapped (λ p. p.tried ≡ now) (timed_after_write n now) (timed_at k old) (timed_at k new) changes.here (λ p. refl)
+
+mapped_open : (now : ℕ) (o r : Option Timed) → r ≡ option_map (timed_after_write 0 now) o
+    → IsSomeAnd o (λ p. EndsBy p.connection None) → IsSomeAnd r (λ p. EndsBy p.connection None)
+mapped_open now None r is h = absurd h
+mapped_open now (Some p) r is h = subst (λ (x : Option Timed). IsSomeAnd x (λ t. EndsBy t.connection None)) (sym is) h
+
+-- one that hasn't ended still hasn't, where none of its bytes were taken
+pub open_still : (now k : ℕ) (old new : Table) → Changes k (timed_after_write 0 now) old new → IsOpenAt k old → IsOpenAt k new
+open_still now k old new changes is = mapped_open now (timed_at k old) (timed_at k new) changes.here is
+
+-- no connection is tried where there is none
+pub none_tried : (now k : ℕ) (table : Table) → timed_at k table ≡ None → IsTriedAt now k table
+none_tried now k table none = subst (λ (x : Option Timed). IfSome x (λ p. p.tried ≡ now)) (sym none) tt
+
 becomes_on : (catalogue : Catalogue) (now k : ℕ) (old new : Table) (p q : Timed) → timed_at k old ≡ Some p → Becomes k (Some q) old new
     → WentOn catalogue now p q → AllWentOn catalogue now old new
 becomes_on catalogue now k old new p q is becomes went =
@@ -230,15 +264,17 @@ answered_at : (catalogue : Catalogue) (now k : ℕ) (old new : Table) (status : 
 answered_at catalogue now k old new status None is h = all_still catalogue now old new (λ j p there. ap (timed_at j) (sym h.1) ∙ there)
 answered_at catalogue now k old new (Some status) (Some p) is h =
     let e : Exchange = record { catalogue = catalogue; message = h.1.0; response = h.1.1 } in
-    becomes_on catalogue now k old new p (record { connection = h.0; progress = now }) is h.2
-    (record { events = Answered e ∷ []; can = (h.1.2, tt); from = (refl, tt); connection = h.1.3; progress = refl })
+    becomes_on catalogue now k old new p (record { connection = h.0; progress = now; tried = p.tried }) is h.2
+    (record { events = Answered e ∷ []; can = (h.1.2, tt); from = (refl, tt); connection = h.1.3; progress = refl; tried = refl })
 answered_at catalogue now k old new None (Some p) is h =
-    becomes_on catalogue now k old new p (record { connection = h.0; progress = p.progress }) is h.2
-    (record { events = []; can = tt; from = tt; connection = h.1.0; progress = refl })
+    becomes_on catalogue now k old new p (record { connection = h.0; progress = p.progress; tried = p.tried }) is h.2
+    (record { events = []; can = tt; from = tt; connection = h.1.0; progress = refl; tried = refl })
 
 pub answered_on : (catalogue : Catalogue) (now k : ℕ) (old new : Table) (status : Option ℕ)
     → GoesOnAt catalogue k now (timed_at k old) old new status → AllWentOn catalogue now old new
 answered_on catalogue now k old new status h = answered_at catalogue now k old new status (timed_at k old) refl h
 
 -- what a step of a turn makes of the connections
-pub ruleset steps = (none_on, written_on, answered_on, all_on)
+pub ruleset steps = (none_on, written_on, tried_on, open_still, answered_on, all_on)
+
+pub ruleset tries = (written_on, tried_on, tried_by)

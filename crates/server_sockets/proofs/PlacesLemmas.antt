@@ -7,7 +7,8 @@ use Rattle.server_connections.specs.Table.{timed_at}
 use Rattle.server_connections.specs.Yielding.{MayYield}
 use Rattle.server_sockets.specs.Going.{AllWentOn}
 use Rattle.server_sockets.proofs.GoingLemmas.{all_on, all_still}
-use Rattle.server_sockets.specs.Turns.{HasStartedAt}
+use Rattle.server_sockets.specs.Turns.{HasStartedAt, IsTriedAt}
+use Rattle.std.specs.Prelude.{IfSome}
 use Rattle.server_sockets.specs.declared.serving.Limits.{Limits}
 use Rattle.server_sockets.specs.Places.{AllStart, KeepsAll, KeepsBusy, NobodyComes, NoneChanges, StayOrStart, accepted_of, limits_of, places_of, room_of}
 
@@ -78,9 +79,22 @@ spared_on a b c room more again places fed first then is-fed free k p there =
     then (fed is-fed) (omega (arith, room, more, again, places, free)) k p
     (first is-fed (omega (arith, more, again, free)) k p there)
 
+tried_as : (now k : ℕ) (a b : Serving) → IsTriedAt now k (places_of a) → NoneChanges a b → (o : Option Timed) → timed_at k (places_of b) ≡ o
+    → IsTriedAt now k (places_of b)
+tried_as now k a b is same None there = subst (λ (o : Option Timed). IfSome o (λ p. p.tried ≡ now)) (sym there) tt
+tried_as now k a b is same (Some p) there =
+    subst (λ (o : Option Timed). IfSome o (λ p. p.tried ≡ now)) (sym there)
+    (subst (λ (o : Option Timed). IfSome o (λ p. p.tried ≡ now)) (same k p there) is)
+
+-- one that was tried, and then some lose their places
+pub tried_still : (now k : ℕ) (a b : Serving) → IsTriedAt now k (places_of a) → NoneChanges a b → IsTriedAt now k (places_of b)
+tried_still now k a b is same = tried_as now k a b is same (timed_at k (places_of b)) refl
+
 -- what becomes of the connections where others are accepted, where the next one is, and where each has its turn
 pub ruleset accepting = (busy_on, start_on, spared_on)
 
 pub ruleset accepting_one = (busy_on, start_more, start_fewer)
 
 pub ruleset taking_turns = (nobody_yet, all_on, went_still)
+
+pub ruleset trying = (nobody_yet, all_still, went_still, tried_still)

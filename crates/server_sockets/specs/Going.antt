@@ -20,14 +20,22 @@ is_progress Came_to_end = false
 is_progress (Answered e) = true
 is_progress (Wrote n) = not (n == 0)
 
--- The connection went on from there by events that may happen, each message answered from this catalogue. Where there was progress, it
--- was at this moment.
+-- it is tried to write
+abbrev pub is_try : Event → Bool
+is_try (Came bytes) = false
+is_try Came_to_end = false
+is_try (Answered e) = false
+is_try (Wrote n) = true
+
+-- The connection went on from there by events that may happen, each message answered from this catalogue. Where there was progress, or a
+-- try to write, it was at this moment.
 pub record WentOn (catalogue : Catalogue) (now : ℕ) (old new : Timed) : Type 0 where
   pub events : List Event
   pub can : CanRun events (since old.connection)
   pub from : AreFrom catalogue (run events (since old.connection)).exchanges
   pub connection : new.connection ≡ (run events (since old.connection)).status
   pub progress : new.progress ≡ (if list_any is_progress events then now else old.progress)
+  pub tried : new.tried ≡ (if list_any is_try events then now else old.tried)
 
 -- who has a place had it, and went on from there by events of its own, each answer from this catalogue
 pub record AllWentOn (catalogue : Catalogue) (now : ℕ) (old new : Table) : Type 0 where

@@ -4,7 +4,7 @@ use Rattle.std.specs.declared.time.Duration.{Duration}
 use Rattle.std.specs.Duration.{as_nanos}
 use Rattle.server_connections.specs.declared.timed.Timed.{Timed}
 use Rattle.server_connections.specs.Table.{Table, timed_at}
-use Rattle.server_connections.specs.Yielding.{MayYield, WakesAt, Yields}
+use Rattle.server_connections.specs.Yielding.{MayYield, TriesAt, WakesAt, Yields}
 use Rattle.server_sockets.specs.Turns.{HasStartedAt}
 use Rattle.server_sockets.specs.declared.serving.Limits.{Limits}
 use Rattle.server_sockets.specs.declared.serving.Serving.{Serving}
@@ -55,12 +55,24 @@ abbrev pub WakesIn : ℕ → Serving → Option Duration → Type 0
 WakesIn now s wait = (wake : Option ℕ)
     × WakesAt (limits_of s).patience (places_of s) wake × IfSome wake (λ moment. IsSomeAnd wait (λ d. as_nanos d ≤ (moment - now) * 1000000))
 
+-- by this moment, where a newcomer waits, a socket is tried for which bytes wait: half of the patience after its last try, at the latest
+abbrev pub TriesBy : Serving → Option ℕ → Type 0
+TriesBy s by = (try : Option ℕ)
+    × TriesAt (limits_of s).patience (places_of s) try × IfSome try (λ moment. IsSomeAnd by (λ first. first ≤ moment))
+
+-- no longer than until then is waited
+abbrev pub TriesIn : ℕ → Serving → Option Duration → Type 0
+TriesIn now s wait = (try : Option ℕ)
+    × TriesAt (limits_of s).patience (places_of s) try × IfSome try (λ moment. IsSomeAnd wait (λ d. as_nanos d ≤ (moment - now) * 1000000))
+
 -- At this moment a newcomer that waits is looked at again: of several places, where the first connection will have made no progress for
--- as long as the patience, or a second from now where there was no room for it, and only then where it wasn't let in.
+-- as long as the patience, or the first socket is to be tried, or a second from now where there was no room for it, and only then where
+-- it wasn't let in.
 abbrev pub IsLookedAt : ℕ → Serving → ℕ → Type 0
 IsLookedAt now s moment =
     (s.accept_pending ≡ true) × (accepted_of s < (limits_of s).connections)
-    × (((s.is_barred ≡ false) × (room_of s ≢ 1) × WakesAt (limits_of s).patience (places_of s) (Some moment))
+    × (((s.is_barred ≡ false) × (room_of s ≢ 1) × (WakesAt (limits_of s).patience (places_of s) (Some moment)
+    ⊎ TriesAt (limits_of s).patience (places_of s) (Some moment)))
     ⊎ (((s.out_of_descriptors ≡ true) ⊎ (s.is_barred ≡ true)) × (moment ≡ min (now + 1000) (2 ^ 64 - 1))))
 
 -- it is waited until the first drain ends, or a newcomer that waits is looked at again

@@ -1,12 +1,12 @@
 -- What a connection's turn does, and when it comes to an end.
-use Rattle.std.specs.Prelude.{◌≡◌, ℕ, nat_eq, IfSome, IsSomeAnd, IsTrue, None, Some, is_some}
+use Rattle.std.specs.Prelude.{◌≡◌, ℕ, nat_eq, IfSome, IsSomeAnd, IsTrue, Option, None, Some, is_some}
 use Rattle.std.specs.HashMap.{HashMap, get}
 use Rattle.std.specs.Map.{remove_entry}
 use Rattle.cog_server.specs.Status.{EndsBy, is_drained, start}
 use Rattle.cog_server.specs.declared.served.Ended.{Ended}
 use Rattle.server_connections.specs.declared.table.Connections.{Connections}
 use Rattle.server_connections.specs.Table.{Table, OthersStay, timed_at}
-use Rattle.server_connections.specs.Yielding.{Yields}
+use Rattle.server_connections.specs.Yielding.{IsUntried, Yields}
 
 -- every connection but k is as it was, k has its place or none as before, there may be as many, and the next number is the same
 pub record KeepsPlaces (k : ℕ) (old new : Connections) : Type 0 where
@@ -17,7 +17,7 @@ pub record KeepsPlaces (k : ℕ) (old new : Connections) : Type 0 where
 
 -- connection k has its place, and starts at this moment: nothing came on it, and its progress is counted from now on
 abbrev pub HasStartedAt : ℕ → ℕ → Table → Type 0
-HasStartedAt k now table = timed_at k table ≡ Some (record { connection = start; progress = now })
+HasStartedAt k now table = timed_at k table ≡ Some (record { connection = start; progress = now; tried = now })
 
 -- all answers of connection k are written, and no more come; or there is no such connection
 abbrev pub HasEndedAt : ℕ → Table → Type 0
@@ -30,6 +30,15 @@ IsOpenAt k table = IsSomeAnd (timed_at k table) (λ p. EndsBy p.connection None)
 -- nothing more may come on connection k, or there is no such connection
 abbrev pub IsDrainedAt : ℕ → Table → Type 0
 IsDrainedAt k table = IfSome (timed_at k table) (λ p. IsTrue (is_drained p.connection))
+
+-- at this moment it was tried to write to connection k, if there is one
+abbrev pub IsTriedAt : ℕ → ℕ → Table → Type 0
+IsTriedAt now k table = IfSome (timed_at k table) (λ p. p.tried ≡ now)
+
+-- of those whose socket is to be tried at this moment, the one that was tried the longest ago is tried, or has lost its place
+abbrev pub TriesOne : ℕ → ℕ → Table → Table → Type 0
+TriesOne now patience old new =
+    (found : Option ℕ) × IsUntried now patience old found × IfSome found (λ k. IsTriedAt now k new)
 
 -- at a moment a connection whose place a newcomer takes is taken away, and no other
 abbrev pub GivesPlace : ℕ → ℕ → Table → Table → Type 0

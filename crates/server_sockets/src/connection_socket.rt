@@ -29,7 +29,7 @@ fn memory(_error: Memory) -> io::Error
 }
 
 /// Writes at most `most` bytes of what waits on a connection at moment `now`, and returns how many were written. Writes the head and the
-/// body by one call, and copies no byte.
+/// body by one call, and copies no byte. Where it fails, the socket was tried at that moment, too.
 pub fn write_some(
     connections: &mut Connections,
     socket: &ConnectionSocket,
@@ -41,7 +41,8 @@ pub fn write_some(
         (λ p. n ≤ length p.connection.waiting)) }
     ensures wrote { IfOk result (λ n. Changes socket.now.number (timed_after_write n now)
         connections.old.table.entries connections.new.table.entries) }
-    ensures err { OnErr result (Changes socket.now.number (λ p. p) connections.old.table.entries connections.new.table.entries) }
+    ensures err { OnErr result (Changes socket.now.number (timed_after_write 0 now)
+        connections.old.table.entries connections.new.table.entries) }
     ensures kept { KeepsPlaces socket.now.number connections.old connections.new }
 {
     let number = socket.number;
@@ -52,16 +53,25 @@ pub fn write_some(
     let (head, body) = timed.connection.waiting();
     let head = &head[..head.len().min(most)];
     let body = &body[..body.len().min(most - head.len())];
-    let n = if body.is_empty() {
-        stream.write(head)?
+    let taken = if body.is_empty() {
+        stream.write(head)
     } else {
-        stream.write_vectored(&[IoSlice::new(head), IoSlice::new(body)])?
+        stream.write_vectored(&[IoSlice::new(head), IoSlice::new(body)])
     };
-    if n == 0 {
-        return Err(io::Error::from(ErrorKind::WriteZero));
+    match taken {
+        Ok(n) if n > 0 => {
+            connections.wrote(number, n, now);
+            Ok(n)
+        }
+        Ok(_) => {
+            connections.wrote(number, 0, now);
+            Err(io::Error::from(ErrorKind::WriteZero))
+        }
+        Err(error) => {
+            connections.wrote(number, 0, now);
+            Err(error)
+        }
     }
-    connections.wrote(number, n, now);
-    Ok(n)
 }
 
 /// Takes the bytes that have come on a connection, and returns how many were taken. They stand at the front of `buffer`. Takes at most as

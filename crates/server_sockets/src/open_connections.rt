@@ -2,16 +2,17 @@
 ghost use Rattle.std.specs.Prelude.{◌≡◌, ◌≢◌, ◌⊎◌, ◌↔◌, ◌+◌, ◌<◌, ◌≤◌, ◌^◌, ℕ, [], IfOk, IfSome, IsSome, IsSomeAnd, IsTrue, None, OnErr, OnOk, Some, false, length, nat_eq, true};
 ghost use Rattle.std.specs.Map.{remove_entry};
 ghost use Rattle.std.specs.NonZero.{non_zero_usize_get};
+ghost use Rattle.http_range.specs.Book.{Catalogue};
 ghost use Rattle.server_connections.specs.Table.{OthersStay, timed_at};
 ghost use Rattle.server_connections.specs.declared.timed.Timed.{Timed};
-ghost use Rattle.server_connections.specs.Yielding.{MayYield, WakesAt, Yields};
+ghost use Rattle.server_connections.specs.Yielding.{IsUntried, MayYield, TriesAt, WakesAt, Yields};
 ghost use Rattle.server_sockets.specs.Going.{AllWentOn};
-ghost use Rattle.server_sockets.specs.Turns.{HasEndedAt, HasStartedAt, HaveSockets, IsDrainedAt, IsOpenAt, KeepsPlaces};
+ghost use Rattle.server_sockets.specs.Turns.{HasEndedAt, HasStartedAt, HaveSockets, IsDrainedAt, IsOpenAt, IsTriedAt, KeepsPlaces};
 ghost use Rattle.server_sockets.specs.declared.turn.Turn.TheVariants.{Ended, GoesOn, Waits};
 
 use crate::answer_log::{AnswerLog, ConnectionLog, UnansweredInput};
 use crate::connection_socket::ConnectionSocket;
-use crate::turn::{Turn, drain_turn, serve_turn};
+use crate::turn::{Turn, drain_turn, serve_turn, try_turn};
 use cog_server::Server;
 use http_range::Memory;
 use mio::net::TcpStream;
@@ -112,6 +113,26 @@ impl OpenConnections {
             None
         } else {
             self.connections.wakes_at(patience)
+        }
+    }
+
+    /// Returns the number of a connection whose socket is to be tried at moment `now`, or `None` where none is.
+    pub fn untried(&self, now: u64, patience: u64) -> Option<u64>
+        ensures { IsUntried now patience self.now.connections.table.entries result }
+    {
+        self.connections.untried(now, patience)
+    }
+
+    /// Returns the first moment at which half of `patience` will have passed since a socket was tried for which bytes wait. Returns `None`
+    /// where there is one slot.
+    pub fn tries_at(&self, patience: u64) -> Option<u64>
+        ensures one { self.now.connections.table.cap ≡ 1 → result ≡ None }
+        ensures many { self.now.connections.table.cap ≢ 1 → TriesAt patience self.now.connections.table.entries result }
+    {
+        if self.connections.table.cap().get() == 1 {
+            None
+        } else {
+            self.connections.tries_at(patience)
         }
     }
 
@@ -235,6 +256,22 @@ impl OpenConnections {
         }
     }
 
+    /// Tries at moment `now` to write to the socket of connection `number`.
+    #[tactic(auto, using(crate::proofs::GoingLemmas::all_still, crate::proofs::GoingLemmas::none_tried))]
+    pub fn try_socket(&mut self, number: u64, now: u64) -> Turn
+        ensures kept { KeepsPlaces number self.old.connections self.new.connections }
+        ensures went { (catalogue : Catalogue) → AllWentOn catalogue now self.old.connections.table.entries
+            self.new.connections.table.entries }
+        ensures tried { IsTriedAt now number self.new.connections.table.entries }
+        ensures counted { self.new.ended ≡ self.old.ended }
+        ensures ended { result ≡ Ended → HasEndedAt number self.new.connections.table.entries }
+    {
+        match self.peers.get(&number) {
+            Some(peer) => try_turn(&mut self.connections, &peer.socket, now),
+            None => Turn::Waits,
+        }
+    }
+
     /// Gives connection `number` its turn at moment `now`. Answers are logged in `log`.
     #[tactic(auto, using(crate::proofs::GoingLemmas::all_still))]
     pub fn turn<A: AnswerLog>(
@@ -250,7 +287,8 @@ impl OpenConnections {
         ensures ended { result ≡ Ended → HasEndedAt number self.new.connections.table.entries
             ⊎ (DrainsAt number self.old × IsDrainedAt number self.new.connections.table.entries) }
         // One that has ended, or is read to its end, neither goes on nor waits.
-        ensures goes_on { result ≡ GoesOn → IsOpenAt number self.old.connections.table.entries
+        ensures goes_on { result ≡ GoesOn → (IsOpenAt number self.old.connections.table.entries
+            × IsOpenAt number self.new.connections.table.entries)
             ⊎ (DrainsAt number self.old × ¬ IsDrainedAt number self.old.connections.table.entries) }
         ensures waits { result ≡ Waits → IsOpenAt number self.new.connections.table.entries
             ⊎ ((DrainsAt number self.old × ¬ IsDrainedAt number self.new.connections.table.entries)

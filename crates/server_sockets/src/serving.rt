@@ -3,16 +3,17 @@ ghost use Rattle.std.specs.Prelude.{◌≡◌, ◌≢◌, ◌+◌, ◌-◌, ◌*
 ghost use Rattle.std.specs.IoError.{error_kind};
 ghost use Rattle.std.specs.NonZero.{non_zero_usize_get};
 ghost use Rattle.std.specs.declared.io.ErrorKind.TheVariants.{WouldBlock};
-ghost use Rattle.server_connections.specs.Table.{OthersStay, timed_at};
+ghost use Rattle.server_connections.specs.Table.{OthersStay, Table, timed_at};
 ghost use Rattle.mio.specs.Events.{capacity};
 ghost use Rattle.server_sockets.specs.Draining.{IsReadyAt, drain_of};
 ghost use Rattle.server_sockets.specs.Going.{AllWentOn};
 ghost use Rattle.server_sockets.specs.Places.{AllStart, IsLookedAt, IsWaitedFor, HasNoPlace, KeepsAll, KeepsBusy, NoneChanges, NobodyComes, NobodyYields, Rests, StayOrStart, accepted_of, ended_of, limits_of, next_of, places_of, room_of, WakesBy, WakesIn};
 ghost use Rattle.server_sockets.specs.Refusals.{HasNoRoom, IsBarred, IsLasting, IsOfAsking, IsPassing};
-ghost use Rattle.server_sockets.specs.Turns.{GivesPlace, HasStartedAt};
+ghost use Rattle.server_sockets.specs.Turns.{GivesPlace, HasStartedAt, TriesOne};
 ghost use Rattle.server_sockets.specs.declared.refusal.AcceptError.TheVariants.{Accept};
 ghost use Rattle.server_sockets.specs.declared.turn.Turn.TheVariants.{Ended, Failed, GoesOn, Waits};
 
+mod trying;
 mod waiting;
 
 use crate::answer_log::AnswerLog;
@@ -160,6 +161,7 @@ impl Serving {
     }
 
     /// Gives each connection that is ready its turn at moment `now`, and closes those whose drain ends. Each answer is logged in `log`.
+    /// While another connection may wait for a slot, a socket that is to be tried is tried.
     #[tactic(auto, using(crate::proofs::PlacesLemmas::taking_turns))]
     pub fn turns<A: AnswerLog>(&mut self, server: &Server, now: u64, log: &mut A)
         ensures nobody { NobodyComes self.old self.new }
@@ -167,11 +169,19 @@ impl Serving {
         ensures went { AllWentOn server.now.catalogue now (places_of self.old) (places_of self.new) }
         // The first drain that is left hasn't ended yet.
         ensures over { IfSome (slice_get self.new.drains.items 0) (λ drain. now < drain.ends) }
+        // Of the sockets that are to be tried after these turns, the one that was tried the longest ago is tried.
+        ensures tried { self.old.accept_pending ≡ true → accepted_of self.old < (limits_of self.old).connections → (turned : Table)
+            × AllWentOn server.now.catalogue now (places_of self.old) turned
+            × TriesOne now (limits_of self.old).patience turned (places_of self.new) }
     {
+        let is_awaited = self.is_awaited();
         for _ in 0..self.ready.len() {
             if let Some(number) = self.ready.pop_front() {
                 self.turn(number, server, now, log);
             }
+        }
+        if is_awaited {
+            self.try_socket(now);
         }
         self.end_drains(now);
     }

@@ -5,7 +5,7 @@ ghost use Rattle.server_connections.specs.Table.{timed_at};
 ghost use Rattle.http_range.specs.Book.{Catalogue};
 ghost use Rattle.std.specs.declared.io.ErrorKind.TheVariants.{Interrupted, OutOfMemory, WouldBlock};
 ghost use Rattle.server_sockets.specs.Going.{AllWentOn};
-ghost use Rattle.server_sockets.specs.Turns.{HasEndedAt, IsDrainedAt, IsOpenAt, KeepsPlaces};
+ghost use Rattle.server_sockets.specs.Turns.{HasEndedAt, IsDrainedAt, IsOpenAt, IsTriedAt, KeepsPlaces};
 ghost use Rattle.server_sockets.specs.declared.turn.Turn.TheVariants.{Ended, GoesOn, Waits};
 
 use crate::answer_log::{AnswerLog, ConnectionLog};
@@ -137,8 +137,9 @@ pub fn serve_turn<A: AnswerLog>(
     ensures kept { KeepsPlaces socket.now.number connections.old connections.new }
     ensures went { AllWentOn server.now.catalogue now connections.old.table.entries connections.new.table.entries }
     ensures ended { result ≡ Ended → HasEndedAt socket.now.number connections.new.table.entries }
-    // One that has ended neither goes on nor waits.
-    ensures goes_on { result ≡ GoesOn → IsOpenAt socket.now.number connections.old.table.entries }
+    // One that has ended neither goes on nor waits: it ends in the turn in which the last byte of its last answer is taken.
+    ensures goes_on { result ≡ GoesOn → IsOpenAt socket.now.number connections.old.table.entries
+        × IsOpenAt socket.now.number connections.new.table.entries }
     ensures waits { result ≡ Waits → IsOpenAt socket.now.number connections.old.table.entries
         × IsOpenAt socket.now.number connections.new.table.entries }
     ensures unanswered { log.new.unanswered.ghost_name ≡ log.old.unanswered.ghost_name }
@@ -159,7 +160,28 @@ pub fn serve_turn<A: AnswerLog>(
             break;
         }
     }
-    Turn::GoesOn
+    if has_ended(connections, socket.number) {
+        Turn::Ended
+    } else {
+        Turn::GoesOn
+    }
+}
+
+/// Tries at moment `now` to write what waits on a connection. The outcome is `GoesOn` where its socket took bytes, `Ended` where these were
+/// the last, and `Waits` where it took none.
+#[tactic(auto, using(crate::proofs::GoingLemmas::tries))]
+pub fn try_turn(connections: &mut Connections, socket: &ConnectionSocket, now: u64) -> Turn
+    ensures kept { KeepsPlaces socket.now.number connections.old connections.new }
+    // Nothing is answered, from whatever catalogue.
+    ensures went { (catalogue : Catalogue) → AllWentOn catalogue now connections.old.table.entries connections.new.table.entries }
+    ensures tried { IsTriedAt now socket.now.number connections.new.table.entries }
+    ensures ended { result ≡ Ended → HasEndedAt socket.now.number connections.new.table.entries }
+{
+    match write_some(connections, socket, WRITE_LIMIT, now) {
+        Ok(_) if has_ended(connections, socket.number) => Turn::Ended,
+        Ok(_) => Turn::GoesOn,
+        Err(error) => turn_of(&error).unwrap_or(Turn::GoesOn),
+    }
 }
 
 /// Drops the bytes that still come after the last message. The outcome is `Ended` once no more may come.

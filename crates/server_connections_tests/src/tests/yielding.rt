@@ -70,10 +70,20 @@ fn table_of(alloc: Global, rows: &[(Doing, u64)]) -> Result<Connections, Fail> {
     Ok(connections)
 }
 
-/// Expects each row.
+/// Tries the sockets that are to be tried at the moment 100 with the patience 30. None of them takes a byte.
+fn try_sockets(connections: &mut Connections, count: usize) {
+    for _ in 0..count {
+        if let Some(number) = connections.untried(100, 30) {
+            connections.wrote(number, 0, 100);
+        }
+    }
+}
+
+/// Expects each row, once the sockets are tried.
 fn expect(rt: &(impl Abort + AllocGlobal), rows: &[Row<'_>]) -> Result<(), Fail> {
     for (table, yields, wakes) in rows {
-        let connections = table_of(rt.alloc(), table)?;
+        let mut connections = table_of(rt.alloc(), table)?;
+        try_sockets(&mut connections, table.len());
         expect_eq!(rt;
             (connections.yields(100, 30), connections.wakes_at(30)),
             (*yields, *wakes),
@@ -119,6 +129,22 @@ fn takes_the_place_of_one_that_drains_or_idles(rt: HostRuntime) -> Result<(), Fa
 #[test]
 fn takes_the_place_of_a_busy_one_behind_the_patience(rt: HostRuntime) -> Result<(), Fail> {
     expect(&rt, &BUSY)
+}
+
+/// A socket is to be tried at half of the patience, and before its connection loses its slot. One that takes a byte keeps the slot.
+#[test]
+fn tries_a_socket_before_its_connection_yields(rt: HostRuntime) -> Result<(), Fail> {
+    let mut connections = table_of(rt.alloc(), &[(Doing::Answered, 50), (Doing::Begun, 60)])?;
+    expect_eq!(rt; connections.tries_at(30), Some(65));
+    expect_eq!(rt; (connections.untried(64, 30), connections.untried(65, 30)), (None, Some(0)));
+    connections.wrote(0, 0, 65);
+    expect_eq!(rt; (connections.untried(79, 30), connections.untried(80, 30)), (None, Some(0)));
+    expect_eq!(rt; (connections.tries_at(30), connections.yields(80, 30)), (Some(80), None));
+    connections.wrote(0, 0, 80);
+    expect_eq!(rt; (connections.untried(80, 30), connections.yields(80, 30)), (None, Some(0)));
+    take_at(&mut connections, 0, 1, 80, &mut Vec::new(rt.alloc()))?;
+    expect_eq!(rt; connections.yields(80, 30), None);
+    Ok(())
 }
 
 #[test]

@@ -1,7 +1,7 @@
 //! How long a server's sockets wait.
 ghost use Rattle.std.specs.Prelude.{◌≡◌, ◌≢◌, ◌+◌, ◌-◌, ◌*◌, ◌<◌, ◌≤◌, ◌⊎◌, [], IfSome, IsSomeAnd, None, false, slice_get, true};
 ghost use Rattle.std.specs.Duration.{as_nanos};
-ghost use Rattle.server_sockets.specs.Places.{IsLookedAt, IsWaitedFor, accepted_of, limits_of, room_of, WakesBy, WakesIn};
+ghost use Rattle.server_sockets.specs.Places.{IsLookedAt, IsWaitedFor, accepted_of, limits_of, room_of, TriesBy, TriesIn, WakesBy, WakesIn};
 
 use crate::moments::earlier;
 use crate::serving::Serving;
@@ -12,13 +12,15 @@ const RETRY: u64 = 1_000;
 
 impl Serving {
     /// Returns the moment at which a connection in the listen backlog is tried again, if one waits. That is the moment at which an open
-    /// connection may be closed for it. Where no descriptor was left, it is a second from `now` at the latest. Where the system barred it,
-    /// it is a second from `now`.
+    /// connection may be closed for it, or at which a socket is to be tried. Where no descriptor was left, it is a second from `now` at the
+    /// latest. Where the system barred it, it is a second from `now`.
     fn looks_at(&self, now: u64) -> Option<u64>
         ensures starved { (self.now.out_of_descriptors ≡ true) ⊎ (self.now.is_barred ≡ true) → self.now.accept_pending ≡ true
             → accepted_of self.now < (limits_of self.now).connections → IsSomeAnd result (λ moment. moment ≤ now + 1000) }
         ensures place { self.now.is_barred ≡ false → self.now.accept_pending ≡ true
             → accepted_of self.now < (limits_of self.now).connections → room_of self.now ≢ 1 → WakesBy self.now result }
+        ensures tries { self.now.is_barred ≡ false → self.now.accept_pending ≡ true
+            → accepted_of self.now < (limits_of self.now).connections → room_of self.now ≢ 1 → TriesBy self.now result }
         ensures idle { self.now.accept_pending ≡ false → result ≡ None }
         ensures only { IfSome result (IsLookedAt now self.now) }
     {
@@ -28,7 +30,11 @@ impl Serving {
         if self.is_barred {
             return Some(now.saturating_add(RETRY));
         }
-        let place = self.open_connections.wakes_at(self.limits.patience);
+        let patience = self.limits.patience;
+        let place = earlier(
+            self.open_connections.wakes_at(patience),
+            self.open_connections.tries_at(patience),
+        );
         let again = if self.out_of_descriptors {
             Some(now.saturating_add(RETRY))
         } else {
@@ -47,6 +53,8 @@ impl Serving {
             → accepted_of self.now < (limits_of self.now).connections → IsSomeAnd result (λ wait. as_nanos wait ≤ 1000 * 1000000) }
         ensures place { self.now.ready.items ≡ [] → self.now.is_barred ≡ false → self.now.accept_pending ≡ true
             → accepted_of self.now < (limits_of self.now).connections → room_of self.now ≢ 1 → WakesIn now self.now result }
+        ensures tries { self.now.ready.items ≡ [] → self.now.is_barred ≡ false → self.now.accept_pending ≡ true
+            → accepted_of self.now < (limits_of self.now).connections → room_of self.now ≢ 1 → TriesIn now self.now result }
         // Where no connection is ready and none is in the backlog, the wait ends with the first drain. Without a drain it has no limit.
         ensures idle { self.now.ready.items ≡ [] → self.now.drains.items ≡ [] → self.now.accept_pending ≡ false → result ≡ None }
         ensures just { self.now.ready.items ≡ [] → self.now.accept_pending ≡ false → IfSome (slice_get self.now.drains.items 0) (λ drain.

@@ -21,5 +21,5 @@ returns-in_err-came-clause-wants c =
 
 pub returns-clause-ok : goal.returns-clause-ok
 returns-clause-ok c =
-    changes c.args.number (λ (p : Timed). record { connection = after_bytes c.args.bytes.now p.connection; progress = p.progress }) c.args.self.now.table.entries
+    changes c.args.number (λ (p : Timed). record { connection = after_bytes c.args.bytes.now p.connection; progress = p.progress; tried = p.tried }) c.args.self.now.table.entries
     c.in-Some.timed.now c.came.new.self (sym c.in-Some.ensures.value) c.in_ok-came.ensures.ok

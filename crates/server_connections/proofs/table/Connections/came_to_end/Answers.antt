@@ -10,5 +10,5 @@ invariant_of-self-2 c =
 
 pub returns-clause-table : goal.returns-clause-table
 returns-clause-table c =
-    changes c.args.number (λ (p : Timed). record { connection = after_end p.connection; progress = p.progress }) c.args.self.now.table.entries
+    changes c.args.number (λ (p : Timed). record { connection = after_end p.connection; progress = p.progress; tried = p.tried }) c.args.self.now.table.entries
     c.in-Some.timed.now c.came_to_end.new.self (sym c.in-Some.ensures.value) c.came_to_end.ensures

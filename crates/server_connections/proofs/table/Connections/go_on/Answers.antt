@@ -22,4 +22,4 @@ returns-in_err-status-clause-wants c =
 pub returns-clause-ok : goal.returns-clause-ok
 returns-clause-ok c =
     goes_on_at c.args.server.now.catalogue c.args.number c.args.now c.args.self.now.table.entries c.in-Some.timed.now c.go_on.new.self c.in_ok-status.status
-    (sym c.in-Some.ensures.value) c.in_ok-status.ensures.ok c.in_ok-status.ensures.progress
+    (sym c.in-Some.ensures.value) c.in_ok-status.ensures.ok c.in_ok-status.ensures.progress c.in_ok-status.ensures.tried

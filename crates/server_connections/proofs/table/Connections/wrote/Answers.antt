@@ -10,4 +10,4 @@ invariant_of-self-2 c =
 pub returns-clause-table : goal.returns-clause-table
 returns-clause-table c =
     changes c.args.number (timed_after_write c.args.n c.args.now) c.args.self.now.table.entries c.in-Some.timed.now c.wrote.new.self
-    (sym c.in-Some.ensures.value) (λ i. record { connection = c.wrote.ensures.connection i; progress = c.wrote.ensures.progress i })
+    (sym c.in-Some.ensures.value) (λ i. record { connection = c.wrote.ensures.connection i; progress = c.wrote.ensures.progress i; tried = c.wrote.ensures.tried i })
