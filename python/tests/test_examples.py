@@ -35,8 +35,9 @@ class Examples(unittest.TestCase):
         self.assertEqual([array.tolist() for array in names['arrays']], parts)
 
     def test_docstrings(self):
-        for module in delgunsai, _disk, _errors, _file, _info, _sources, _threads:
-            self.assertEqual(doctest.testmod(module).failed, 0)
+        with delgunsai.open_file(EXAMPLE) as file:
+            for module in delgunsai, _disk, _errors, _file, _info, _sources, _threads:
+                self.assertEqual(doctest.testmod(module, extraglobs={'f': file}).failed, 0)
 
     def test_example_of_docs(self):
         """The samples that the README prints."""
