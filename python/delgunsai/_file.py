@@ -104,7 +104,7 @@ class File(Raster):
         return self._source.where
 
     def read(self, *, x: Optional[SupportsIndex] = None, y: Optional[SupportsIndex] = None, width: Optional[SupportsIndex] = None,
-             height: Optional[SupportsIndex] = None, level: Optional[SupportsIndex] = None, bounds: Optional[Sequence[float]] = None,
+             height: Optional[SupportsIndex] = None, level: SupportsIndex = 0, bounds: Optional[Sequence[float]] = None,
              out_shape: Optional[Sequence[SupportsIndex]] = None) -> NDArray[Any]:
         """The samples of `width` columns from `x` and `height` rows from `y`, in pixels of the level: of shape (height, width), or
         (height, width, 3) of three samples, as uint8 or uint16. They are at most 4,194,304, as 2048 by 2048 of one sample are.
@@ -121,9 +121,10 @@ class File(Raster):
         >>> f.read(out_shape=(16, 32)).shape, f.read(level=2).shape
         ((16, 32), (16, 16))
         """
-        if bounds is None and out_shape is None and (x, y, width, height) != (None,) * 4:
-            numbers: Any = {'x': x, 'y': y, 'width': width, 'height': height, 'level': 0 if level is None else level}
-            return self._alone(self._window, self._core.open_window, _numbers(**numbers))[0]
+        is_window = x is not None or y is not None or width is not None or height is not None
+        if is_window and bounds is None and out_shape is None:
+            window: Any = {'x': x, 'y': y, 'width': width, 'height': height, 'level': level}
+            return self._alone(self._window, self._core.open_window, _numbers(**window))[0]
         return self._read_as(x, y, width, height, level, bounds, out_shape)
 
     def read_columns(self, *, x: SupportsIndex, y: SupportsIndex, width: SupportsIndex, height: SupportsIndex,

@@ -142,7 +142,7 @@ class Raster:
         return self._settled(lambda info: percentiles_of(self, info, low, high))
 
     def png(self, *, x: Optional[SupportsIndex] = None, y: Optional[SupportsIndex] = None, width: Optional[SupportsIndex] = None,
-            height: Optional[SupportsIndex] = None, level: Optional[SupportsIndex] = None, bounds: Optional[Sequence[float]] = None,
+            height: Optional[SupportsIndex] = None, level: SupportsIndex = 0, bounds: Optional[Sequence[float]] = None,
             out_shape: Optional[Sequence[SupportsIndex]] = None, limits: Optional[Tuple[float, float]] = None) -> bytes:
         """Returns what `read` gives as a PNG file of 8 bits, grey or RGB. `limits` are the samples that become 0 and 255. Without them
         samples of 8 bits stay as they are, and those of 16 bits are stretched from 2 to 98 per cent (`percentiles`).
@@ -196,7 +196,7 @@ class Raster:
         raise TypeError('a File is no sequence: f[...] is the array of its samples')
 
     def _read_as(self, x: Optional[SupportsIndex], y: Optional[SupportsIndex], width: Optional[SupportsIndex],
-                 height: Optional[SupportsIndex], level: Optional[SupportsIndex], bounds: Optional[Sequence[float]],
+                 height: Optional[SupportsIndex], level: SupportsIndex, bounds: Optional[Sequence[float]],
                  out_shape: Optional[Sequence[SupportsIndex]]) -> NDArray[Any]:
         """Returns what `read` gives by bounds, by the shape of the array, or of a whole level."""
         asked = Asked(_window(x, y, width, height), level, bounds, out_shape)
@@ -224,7 +224,7 @@ class Raster:
 class Asked(NamedTuple):
     """What `read` is asked for."""
     window: Optional[Window]
-    level: Optional[SupportsIndex]
+    level: SupportsIndex
     bounds: Optional[Sequence[float]]
     shape: Optional[Sequence[SupportsIndex]]
 
@@ -243,9 +243,9 @@ def _read(file: Raster, info: Info, asked: Asked) -> NDArray[Any]:
     """Reads what is asked for of the revision of the info."""
     if asked.window is not None and asked.bounds is not None:
         raise TypeError('a window or bounds, and not both')
-    if asked.shape is not None and asked.level is not None:
+    level = operator.index(asked.level)
+    if asked.shape is not None and level != 0:
         raise TypeError('level or out_shape, and not both')
-    level = 0 if asked.level is None else operator.index(asked.level)
     if not 0 <= level < len(info.levels):
         raise ValueError(f'level is {level}, and not 0 to {len(info.levels) - 1}')
     sides = info.levels[level]

@@ -195,7 +195,7 @@ class Reads(unittest.TestCase):
 
     def test_refused(self):
         with delgunsai.open_file(EXAMPLE) as file:
-            for words in {'x': 1, 'y': 1}, {'x': 1, 'out_shape': (1, 1)}, {'level': 0, 'out_shape': (1, 1)}, {
+            for words in {'x': 1, 'y': 1}, {'x': 1, 'out_shape': (1, 1)}, {'level': 1, 'out_shape': (1, 1)}, {'level': None}, {
                     'x': 0, 'y': 0, 'width': 1, 'height': 1, 'bounds': file.bounds}, {'level': 1.5}, {'out_shape': (1.5, 2)}:
                 self.assertRaises(TypeError, file.read, **words)
             for words in {'level': 3}, {'level': -1}, {'out_shape': (0, 4)}, {'out_shape': (1, 2, 3)}, {'bounds': (1, 2, 3)}:
