@@ -116,6 +116,7 @@ class Tiles(unittest.TestCase):
         smallest = as_rasterio(source.name, len(info['levels']) - 1, (0, 0, *info['levels'][-1]))
         if max(info['levels'][-1]) <= 1024:
             self.assertEqual(info['percentiles'], list(numpy.percentile(smallest, (2, 98))))
+            self.assertEqual(info['extent'], [smallest.min(), smallest.max()] if info['most'] == 65535 else [0, 255])
         self.assertEqual(info['limits'], info['percentiles'] if info['most'] == 65535 else [0, 255])
 
     def test_limits(self):

@@ -55,6 +55,8 @@ class Revision(NamedTuple):
     """The greatest sample: 255 or 65,535."""
     percentiles: Limits
     """The samples at 2 and 98 per cent of the smallest level."""
+    extent: Limits
+    """The least and the greatest sample: of 8 bits 0 and 255, and of 16 bits those of the smallest level."""
 
     @property
     def tag(self) -> str:
@@ -88,7 +90,9 @@ def _revision_of(file: File) -> Revision:
         pixel, tag = file.read_tagged(x=0, y=0, width=1, height=1)
         if tag != info.tag:
             raise Replaced
-        return Revision(info, pixel.size, 256 ** pixel.itemsize - 1, percentiles_of(file, info, *MAIN_PERCENTILES))
+        is_wide = pixel.itemsize == 2
+        extent = percentiles_of(file, info, 0, 100) if is_wide else (0.0, 255.0)
+        return Revision(info, pixel.size, 65535 if is_wide else 255, percentiles_of(file, info, *MAIN_PERCENTILES), extent)
     return file._settled(read)
 
 

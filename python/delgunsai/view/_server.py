@@ -22,7 +22,7 @@ IDLE = 60
 SCRIPTS = 'view.js', 'panel.js', 'place.js'
 PAGE = {'/': ('index.html', 'text/html; charset=utf-8'), '/view.css': ('view.css', 'text/css; charset=utf-8'),
         **{f'/{name}': (name, 'text/javascript; charset=utf-8') for name in SCRIPTS}}
-POLICY = ("default-src 'none'; script-src 'self'; style-src 'self'; img-src 'self'; connect-src 'self'; base-uri 'none'; form-action 'none'; "
+POLICY = ("default-src 'none'; script-src 'self'; style-src 'self'; img-src data:; connect-src 'self'; base-uri 'none'; form-action 'none'; "
           "frame-ancestors 'none'")
 NUMBER = f'([0-9]{{1,{MOST_DIGITS}}})'
 TILE = re.compile(f'/tiles/([A-Za-z0-9._-]+)/{NUMBER}/{NUMBER}/{NUMBER}\\.png')
@@ -168,6 +168,7 @@ def described(layer: Layer, revision: Revision) -> Dict[str, Any]:
     crs = revision.crs
     return {'name': layer.name, 'place': layer.place, 'tag': revision.tag, 'levels': revision.info.levels, 'tile': SIDE,
             'samples': revision.samples, 'most': revision.most, 'limits': revision.limits, 'percentiles': revision.percentiles,
+            'extent': revision.extent,
             'transform': revision.transform, 'bounds': revision.bounds,
             'crs': None if crs is None else {'epsg': crs.epsg, 'text': crs.text}}
 

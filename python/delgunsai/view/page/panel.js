@@ -6,7 +6,8 @@ const BACK = '#14171c';
 const FLIGHTS = 8;                                           // requests at once
 const KEPT = 400;                                            // tiles
 const CALM = 120;                                            // milliseconds without a move, before a value or a stretch is asked for
-const NOTICE = 5000;                                         // milliseconds
+const NOTICE = 5000;                                         // milliseconds, for which a replacement is told
+const REST = 2000;                                           // milliseconds, before a tile that failed is asked for again
 
 export class Panel {
   constructor(file, settings, changed) {
@@ -14,6 +15,8 @@ export class Panel {
     this.side = settings.side;
     this.changed = changed;                                  // is called where the page is to be drawn again
     this.info = this.epoch = this.pointer = null;
+    this.failure = null;                                     // why the file can't be read
+    this.news = null;                                        // what is said for a while
     this.tiles = new Map();
     this.flights = new Map();
     this.failed = new Map();
@@ -56,24 +59,30 @@ export class Panel {
     if (before === null || before.most !== info.most) this.limits = info.limits;
     this.info = info;
     this.begin();
+    this.say(null);
     if (before !== null) {
       this.root.dataset.replaced = ++this.replacements;
-      this.say(`The file was replaced, and is drawn anew (${new Date().toLocaleTimeString()}).`, true);
-    } else {
-      this.say(null);
+      this.say(`The file was replaced, and is drawn anew (${new Date().toLocaleTimeString()}).`, NOTICE);
     }
     this.showStretch();
-    this.changed();
   }
 
   wait(seconds) {
+    this.failure = null;
     this.say(`Reading for ${Math.round(seconds)} seconds ..`);
     setTimeout(() => this.look(), 300);
   }
 
   fail(sentence) {
     this.failure = sentence;
-    this.say(sentence, true);
+    this.changed();
+  }
+
+  // Says something until something else is said, or for some milliseconds.
+  say(sentence, until = null) {
+    this.news = sentence;
+    clearTimeout(this.timer);
+    if (until !== null) this.timer = setTimeout(() => this.say(null), until);
     this.changed();
   }
 
@@ -104,7 +113,7 @@ export class Panel {
       const tile = await createImageBitmap(await answer.blob());
       if (this.epoch === epoch) this.keep(key, tile);
     } catch (error) {
-      if (this.epoch === epoch && error.name !== 'AbortError') this.miss(key, error.message);
+      if (this.epoch === epoch && error.name !== 'AbortError') this.failed.set(key, {sentence: error.message, time: performance.now()});
     } finally {
       if (this.flights.get(key) === flight) this.flights.delete(key);
       this.changed();
@@ -112,6 +121,7 @@ export class Panel {
   }
 
   keep(key, tile) {
+    this.failed.delete(key);
     this.tiles.set(key, tile);
     if (this.tiles.size <= KEPT) return;
     const [oldest] = this.tiles.keys();
@@ -119,10 +129,10 @@ export class Panel {
     this.tiles.delete(oldest);
   }
 
-  miss(key, sentence) {
-    this.failed.set(key, sentence);
-    this.fail(sentence);
-    setTimeout(() => this.failed.delete(key) && this.changed(), 2000);
+  // Says whether a tile may be asked for: one that failed rests for a while.
+  rests(key) {
+    const failed = this.failed.get(key);
+    return failed !== undefined && performance.now() - failed.time < REST;
   }
 
   // Asks for the tiles that are missing, the one nearest to the middle first, and gives up those that aren't wanted any more.
@@ -130,17 +140,20 @@ export class Panel {
     for (const [key, flight] of this.flights) {
       if (!keys.includes(key)) flight.abort(), this.flights.delete(key);
     }
-    const missing = keys.filter(key => !this.tiles.has(key) && !this.flights.has(key) && !this.failed.has(key));
+    const missing = keys.filter(key => !this.tiles.has(key) && !this.flights.has(key) && !this.rests(key));
     for (const key of missing.slice(0, FLIGHTS - this.flights.size)) this.fly(key);
   }
 
   // ---- drawing
 
+  // Gives the canvas the whole pixels of its frame, lest the browser blur it.
   resize() {
-    const frame = this.find('.frame');
-    if (this.canvas.width === frame.clientWidth && this.canvas.height === frame.clientHeight) return;
-    this.canvas.width = frame.clientWidth;
-    this.canvas.height = frame.clientHeight;
+    const box = this.find('.frame').getBoundingClientRect(), left = Math.ceil(box.left), top = Math.ceil(box.top);
+    const width = Math.floor(box.right) - left, height = Math.floor(box.bottom) - top;
+    this.canvas.style.left = `${left - box.left}px`;
+    this.canvas.style.top = `${top - box.top}px`;
+    if (this.canvas.width !== width) this.canvas.width = width;
+    if (this.canvas.height !== height) this.canvas.height = height;
   }
 
   // Draws what the guide shows at this view, and asks for what is missing.
@@ -148,14 +161,14 @@ export class Panel {
     this.resize();
     this.context.fillStyle = BACK;
     this.context.fillRect(0, 0, this.canvas.width, this.canvas.height);
-    if (this.info === null) return this.show('reading', 0, 0);
+    if (this.info === null) return this.show('reading', [], []);
     this.view = viewIn(this.info, guide, view);
     const level = levelOf(this.view.zoom), keys = this.visible(level);
     const ready = keys.filter(key => this.tiles.has(key));
     if (ready.length < keys.length) this.drawRough(level);
     this.drawLevel(ready, factorOf(this.view.zoom), false);
     this.want([...keys, ...this.visible(this.info.levels.length - 1).filter(key => !keys.includes(key))]);
-    this.show(ready.length === keys.length ? 'ready' : 'drawing', ready.length, keys.length);
+    this.show(ready.length === keys.length ? 'ready' : 'drawing', ready, keys);
   }
 
   // The upper left corner of the screen in screen pixels from that of the image.
@@ -202,27 +215,32 @@ export class Panel {
 
   // ---- words
 
-  show(state, ready, count) {
-    const isWrong = this.failure !== null && this.failure !== undefined;
-    Object.assign(this.root.dataset, {state: isWrong ? 'error' : state, ready, count, tag: this.epoch ? this.epoch.tag : ''});
-    this.find('.tag').textContent = this.epoch ? this.epoch.tag : '';
+  // Shows the state, which is an error where the file or a tile on the screen can't be read.
+  show(state, ready, keys) {
+    const missed = keys.map(key => this.failed.get(key)).find(failed => failed !== undefined);
+    const wrong = this.failure ?? (missed ? missed.sentence : null), tag = this.epoch ? this.epoch.tag : '';
+    Object.assign(this.root.dataset, {state: wrong === null ? state : 'error', ready: ready.length, count: keys.length, tag});
+    this.find('.tag').textContent = tag;
+    this.notify(wrong ?? this.news, wrong !== null);
     const bar = this.find('progress');
     if (state === 'reading') bar.removeAttribute('value');
-    else bar.max = count, bar.value = ready;
+    else bar.max = keys.length, bar.value = ready.length;
+    this.showLevel();
+  }
+
+  notify(sentence, isWrong) {
+    const notice = this.find('.notice');
+    notice.hidden = sentence === null;
+    notice.textContent = sentence;
+    notice.classList.toggle('warns', isWrong);
+  }
+
+  showLevel() {
     if (this.info === null) return;
     const level = levelOf(this.view.zoom), [width, height] = this.info.levels[level], factor = factorOf(this.view.zoom);
     this.root.dataset.level = level;
     this.find('.level').textContent = `${level}: ${width} × ${height}` + (factor > 1 ? `, ${factor} times` : '');
     this.point();
-  }
-
-  say(sentence, isFinal = false) {
-    const notice = this.find('.notice');
-    clearTimeout(this.timer);
-    notice.hidden = sentence === null;
-    notice.textContent = sentence;
-    notice.classList.toggle('warns', isFinal);
-    if (isFinal && !this.failure) this.timer = setTimeout(() => this.say(null), NOTICE);
   }
 
   // Shows what lies so far from the middle of the screen; without words what did before.
@@ -268,7 +286,7 @@ export class Panel {
       slider.addEventListener('input', () => this.slide([Number(this.low.value), Number(this.high.value)]));
     }
     this.find('.main').addEventListener('click', () => this.slide(this.info && this.info.percentiles));
-    this.find('.all').addEventListener('click', () => this.slide(this.info && [0, this.info.most]));
+    this.find('.all').addEventListener('click', () => this.slide(this.info && this.info.extent));
   }
 
   // Takes other limits, and draws by them once they rest.
@@ -282,7 +300,7 @@ export class Panel {
 
   showStretch() {
     [this.low, this.high].forEach((slider, number) => {
-      slider.max = this.info.most;
+      [slider.min, slider.max] = this.info.extent;
       slider.value = this.limits[number];
       slider.nextElementSibling.value = Math.round(this.limits[number]);
     });

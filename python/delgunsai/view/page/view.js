@@ -1,6 +1,6 @@
 // The page: panels side by side, which show one view, and what moves it.
 import {Panel} from './panel.js';
-import {NEAREST, factorOf, linkOf, viewOf, whole, within, zoomed} from './place.js';
+import {NEAREST, factorOf, linkOf, viewIn, viewOf, whole, within, zoomed} from './place.js';
 
 const STEP = 128;                                            // pixels that a key moves
 const NOTCH = 60;                                            // of a wheel, for one level
@@ -9,12 +9,16 @@ const PINCH = 1.5;                                           // how far fingers 
 const settings = JSON.parse(document.body.dataset.settings);
 const panels = settings.files.map(file => new Panel(file, settings, drawSoon));
 let view = viewOf(location.hash);
+let viewed = null;                                           // the info whose levels the view speaks of
 let frame = 0, turned = 0;
 const fingers = new Map();                                   // places of pointers that are down
 let apart = 0;
 
-// The panel whose levels a view speaks of: the first one that is read.
-const guide = () => panels.find(panel => panel.info !== null);
+// The panel whose levels a view speaks of: the first that can be read, once it is.
+function guide() {
+  const first = panels.find(panel => panel.info !== null || panel.failure === null);
+  return first && first.info ? first : undefined;
+}
 
 function drawSoon() {
   if (frame === 0) frame = requestAnimationFrame(draw);
@@ -25,11 +29,15 @@ function draw() {
   const first = guide();
   if (first) {
     first.resize();
+    if (view && viewed && hasOtherLevels(first.info, viewed)) view = viewIn(first.info, viewed, view);
+    viewed = first.info;
     view = within(first.info.levels, view ?? whole(first.info.levels, first.canvas.width, first.canvas.height));
     showLink();
   }
   for (const panel of panels) panel.draw(first && first.info, view);
 }
+
+const hasOtherLevels = (one, other) => JSON.stringify(one.levels) !== JSON.stringify(other.levels);
 
 // ---- moves
 
