@@ -1,6 +1,7 @@
 """PNG files of samples, and samples of 8 bits for the screen."""
 from __future__ import annotations
 
+import functools
 import struct
 import zlib
 from typing import Any, Tuple
@@ -41,12 +42,16 @@ def stretched(samples: NDArray[Any], limits: Tuple[float, float]) -> NDArray[Any
     >>> stretched(numpy.array([[0, 100, 150, 200, 65535]], 'u2'), (100, 200)).tolist()
     [[0, 0, 128, 255, 255]]
     """
-    low, high = limits
-    most = 256 ** samples.dtype.itemsize - 1
-    if (low, high) == (0, most) and most == 255:
+    if samples.dtype.itemsize == 1 and limits == (0, 255):
         return samples
-    numbers = numpy.arange(most + 1, dtype='f8')
-    share = (numbers - low) / (high - low) if high > low else (numbers > low).astype('f8')
-    table = numpy.floor(numpy.clip(share, 0, 1) * 255 + 0.5).astype('u1')
-    stretch: NDArray[Any] = table[samples]
+    stretch: NDArray[Any] = _table(256 ** samples.dtype.itemsize, *limits)[samples]
     return stretch
+
+
+@functools.lru_cache(16)
+def _table(count: int, low: float, high: float) -> NDArray[Any]:
+    """Returns what each sample below `count` becomes."""
+    numbers = numpy.arange(count, dtype='f8')
+    share = (numbers - low) / (high - low) if high > low else (numbers > low).astype('f8')
+    table: NDArray[Any] = numpy.floor(numpy.clip(share, 0, 1) * 255 + 0.5).astype('u1')
+    return table

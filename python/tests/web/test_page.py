@@ -247,7 +247,10 @@ class Several(InBrowser):
         self.no_errors()
 
 
-def revision_text(number, side=512):
+SIDE = 768
+
+
+def revision_text(number, side=SIDE):
     """A file of one level, RGB, each of whose pixels tells the number of the revision and its place."""
     rows, columns = numpy.mgrid[:side, :side]
     pixels = numpy.empty((side, side, 3), 'u1')
@@ -286,7 +289,7 @@ class Replaced(InBrowser):
         height, width = shot.shape[:2]
         rows, columns = numpy.mgrid[:height, :width]
         rows, columns = rows + link[2] - height // 2, columns + link[1] - width // 2
-        inside = (shot != (20, 23, 28)).any(2) & (rows >= 0) & (columns >= 0) & (rows < 512) & (columns < 512)
+        inside = (shot != (20, 23, 28)).any(2) & (rows >= 0) & (columns >= 0) & (rows < SIDE) & (columns < SIDE)
         inside[:60] = inside[-4:] = False                  # the sentence, and the bar of progress
         wrong = shot[..., 2] != (rows * 7 + columns * 3) % 256
         self.assertEqual(int((wrong & inside).sum()), 0)
@@ -299,7 +302,7 @@ class Replaced(InBrowser):
             file.write(revision_text(0))
         with Cogserve({'r': path}) as server, View('--seconds', '0.3', server.url('r')) as view:
             self.tags, self.replaced = {'"1-1"': 0}, 0
-            self.page.open(view.url + '#0/256/256')
+            self.page.open(f'{view.url}#0/{SIDE // 2}/{SIDE // 2}')
             self.page.wait()
             replacing = threading.Thread(target=self.replace, args=(path, 'r', server.port), daemon=True)
             replacing.start()
@@ -314,7 +317,7 @@ class Replaced(InBrowser):
             before = self.page.panel()
             shot = self.page.screenshot()
             after = self.page.panel()
-            numbers, pixels = self.revisions_of(shot, [0, 256, 256])
+            numbers, pixels = self.revisions_of(shot, [0, SIDE // 2, SIDE // 2])
             self.assertLessEqual(len(numbers), 1, (before['tag'], after['tag']))
             if pixels and before['tag'] == after['tag']:
                 self.assertEqual(numbers, {self.number_of(before['tag'])})
@@ -335,7 +338,7 @@ class Replaced(InBrowser):
         """After the last replacement the page shows the last revision, and says that the file was replaced."""
         told = self.page.wait(also=lambda told: self.number_of(told['tag']) == self.COUNT)
         self.assertIn('The file was replaced, and is drawn anew', told['noticeWords'])
-        numbers, pixels = self.revisions_of(self.page.screenshot(), [0, 256, 256])
+        numbers, pixels = self.revisions_of(self.page.screenshot(), [0, SIDE // 2, SIDE // 2])
         self.assertEqual(numbers, {self.COUNT})
         seen = set().union(*(numbers for numbers, _, _ in shots))
         drawn = [pixels for numbers, pixels, _ in shots if numbers]

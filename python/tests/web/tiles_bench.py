@@ -11,6 +11,8 @@ import urllib.parse
 HERE = os.path.dirname(os.path.abspath(__file__))
 SIDES = {'grey': (7168, 6144), 'rgb': (3584, 3072)}
 ROUNDS = 3
+SLICE = 24
+ROUND_TRIP = 40
 WAYS = {'package': 'the package, a reader for each of eight', 'one': 'the package, one reader', 'rasterio': 'rasterio, a data set for each thread'}
 
 
@@ -38,9 +40,8 @@ def serve(way, url, name):
     server.serve_forever()
 
 
-def fetch(port, targets, seen):
-    """Gets these tiles over one connection."""
-    connection = http.client.HTTPConnection('127.0.0.1', port)
+def fetch(connection, targets, seen):
+    """Gets these tiles over a connection."""
     for target in targets:
         connection.request('GET', target)
         answer = connection.getresponse()
@@ -48,61 +49,85 @@ def fetch(port, targets, seen):
         if answer.status != 200:
             sys.exit(f'web: {target}: {answer.status} {body[:200]}')
         seen[target] = hash(body)
-    connection.close()
 
 
-def rate(way, url, name, targets, at_once):
-    """How many of these tiles come in a second, from nothing, and again; and what came."""
-    process = subprocess.Popen([sys.executable, os.path.abspath(__file__), way, url, name], stdout=subprocess.PIPE, text=True,
-                               env={**os.environ, 'PYTHONPATH': os.pathsep.join(sys.path), 'GDAL_DISABLE_READDIR_ON_OPEN': 'EMPTY_DIR'})
+class Served:
+    """A server of tiles in a process of its own."""
+
+    def __init__(self, way, url, name):
+        self.process = subprocess.Popen([sys.executable, os.path.abspath(__file__), way, url, name], stdout=subprocess.PIPE, text=True,
+                                        env={**os.environ, 'PYTHONPATH': os.pathsep.join(sys.path), 'GDAL_DISABLE_READDIR_ON_OPEN': 'EMPTY_DIR'})
+        self.port = int(self.process.stdout.readline())
+        self.connections = []
+
+    def get(self, targets, at_once, seen):
+        """Gets these tiles over as many connections, which are kept, and returns the seconds that it takes."""
+        while len(self.connections) < at_once:
+            self.connections.append(http.client.HTTPConnection('127.0.0.1', self.port))
+        threads = [threading.Thread(target=fetch, args=(self.connections[k], targets[k::at_once], seen)) for k in range(at_once)]
+        start = time.perf_counter()
+        for thread in threads:
+            thread.start()
+        for thread in threads:
+            thread.join()
+        return time.perf_counter() - start
+
+    def busy(self):
+        """The seconds of processor time that it took so far."""
+        with open(f'/proc/{self.process.pid}/stat') as file:
+            return sum(map(int, file.read().rsplit(')', 1)[1].split()[11:13])) / os.sysconf('SC_CLK_TCK')
+
+    def end(self):
+        self.process.kill()
+        self.process.communicate()
+
+
+def turns(url, name, targets, at_once, sums, bodies):
+    """Gets the tiles by all ways in turn, some at a time, from nothing, and then again. Adds up the seconds, and those of processor time."""
+    servers = {way: Served(way, url, name) for way in WAYS}
     try:
-        port, seen, rates = int(process.stdout.readline()), {}, []
-        for _ in range(2):
-            threads = [threading.Thread(target=fetch, args=(port, targets[k::at_once], seen)) for k in range(at_once)]
-            start = time.perf_counter()
-            for thread in threads:
-                thread.start()
-            for thread in threads:
-                thread.join()
-            rates.append(len(targets) / (time.perf_counter() - start))
-        return rates, seen
+        for again in 0, 1:
+            seen, before = {way: {} for way in WAYS}, {way: server.busy() for way, server in servers.items()}
+            for number, first in enumerate(range(0, len(targets), SLICE)):
+                for turn in range(len(WAYS)):
+                    way = list(WAYS)[(number + turn) % len(WAYS)]
+                    sums[way, at_once, again] = sums.get((way, at_once, again), 0) + servers[way].get(targets[first:first + SLICE], at_once, seen[way])
+            for way, server in servers.items():
+                sums['busy', way, at_once, again] = sums.get(('busy', way, at_once, again), 0) + server.busy() - before[way]
+            bodies.update(tuple(one[target] for target in targets) for one in seen.values())
     finally:
-        process.kill()
-        process.communicate()
+        for server in servers.values():
+            server.end()
 
 
-def measure(server, name, count):
-    """A row for each way and number of connections, the best of the rounds, in turn."""
+def measure(url, name, count, words=''):
+    """A row for each way and number of connections, over all rounds."""
     import delgunsai
-    with delgunsai.open(server.url(name + '.tif')) as file:
+    with delgunsai.open(url) as file:
         sides, tag = file.levels[0], urllib.parse.quote(file.tag)
-    chance = random.Random(1)
     every = [(x, y) for x in range(sides[0] // 256) for y in range(sides[1] // 256)]
-    chosen = chance.sample(every, min(count, len(every)))
+    chosen = random.Random(1).sample(every, min(count, len(every)))
     targets = [f'/tiles/{name}.tif/0/{x}/{y}.png?tag={tag}' for x, y in chosen]
-    best, bodies = {}, set()
+    sums, bodies = {}, set()
     for _ in range(ROUNDS):
         for at_once in 1, 8:
-            for way in WAYS:
-                rates, seen = rate(way, server.url(name + '.tif'), name, targets, at_once)
-                bodies.add(tuple(seen[target] for target in targets))
-                known = best.get((way, at_once), [0, 0])
-                best[way, at_once] = [max(pair) for pair in zip(known, rates)]
+            turns(url, name, targets, at_once, sums, bodies)
     if len(bodies) != 1:
         sys.exit('web: the tiles differ')
     for at_once in 1, 8:
-        for way, words in WAYS.items():
-            first, again = best[way, at_once]
-            ratios = [one / other for one, other in zip(best[way, at_once], best['rasterio', at_once])]
-            print(f'{name}, {at_once} at once, {words}: {first:.0f} tiles a second ({ratios[0]:.2f}), again {again:.0f} ({ratios[1]:.2f})')
+        for way, meaning in WAYS.items():
+            rates = [ROUNDS * len(targets) / sums[way, at_once, again] for again in (0, 1)]
+            ratios = [sums['rasterio', at_once, again] / sums[way, at_once, again] for again in (0, 1)]
+            busy = [1000 * sums['busy', way, at_once, again] / ROUNDS / len(targets) for again in (0, 1)]
+            print(f'{name}{words}, {at_once} at once, {meaning}: {rates[0]:.0f} tiles a second ({ratios[0]:.2f}), again {rates[1]:.0f} '
+                  f'({ratios[1]:.2f}); {busy[0]:.2f} ms of processor time a tile, again {busy[1]:.2f}', flush=True)
 
 
-def main(count=400):
+def main(count=400, far=72):
     import rasterio
     from files import PLAIN, TRANSLATE, base
     from servers import Cogserve
-    from support import EXAMPLE, FOLDER
-    os.environ['PYTHONHASHSEED'] = '0'
+    from support import EXAMPLE, FOLDER, free_port
     with rasterio.open(EXAMPLE) as source:
         samples, profile = source.read(1), source.profile
     paths = {}
@@ -113,7 +138,16 @@ def main(count=400):
         os.utime(paths[f'{name}.tif'], (time.time() - 3600,) * 2)
     with Cogserve(paths) as server:
         for name in SIDES:
-            measure(server, name, count)
+            measure(server.url(f'{name}.tif'), name, count)
+        port = free_port()
+        relay = subprocess.Popen([sys.executable, os.path.join(os.path.dirname(HERE), 'relay.py'), str(port), f'127.0.0.1:{server.port}',
+                                  str(ROUND_TRIP)], stdout=subprocess.PIPE)
+        relay.stdout.readline()
+        try:
+            measure(f'http://127.0.0.1:{port}/grey.tif', 'grey', far, f' over round trips of {ROUND_TRIP} ms')
+        finally:
+            relay.terminate()
+            relay.communicate()
 
 
 if __name__ == '__main__':
