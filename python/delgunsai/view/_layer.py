@@ -1,14 +1,16 @@
 """A file that the viewer shows: its revision, and tiles of it."""
 from __future__ import annotations
 
+import collections
 import contextlib
 import os
 import threading
 import time
 from concurrent import futures
-from typing import Callable, Iterator, List, NamedTuple, Optional, Tuple
+from typing import Any, Callable, Iterator, List, NamedTuple, Optional, Tuple
 
 import numpy
+from numpy.typing import NDArray
 
 from .._file import File, open as open_url, open_file
 from .._ground import Crs, Transform, bounds_of, crs_of, transform_of
@@ -18,12 +20,17 @@ from .._raster import Replaced, percentiles_of
 
 SIDE = 256
 """The columns and the rows of a tile."""
+MOST_KEPT = 64 << 20
+"""How many bytes of samples are kept of a file: 1,024 tiles of a grey image of 8 bits."""
 PATIENCE = 0.5
 """How many seconds a request waits for the first read, before it says that the read goes on."""
 MAIN_PERCENTILES = 2, 98
 
 Opener = Callable[[], File]
 Limits = Tuple[float, float]
+Array = NDArray[Any]
+Place = Tuple[str, int, int, int]
+"""A tag, a level, and the column and the row of a tile."""
 
 
 class Changed(Exception):
@@ -142,6 +149,33 @@ class Readers:
             file.close()
 
 
+class Samples:
+    """Samples of tiles by their tag and place, those that were used last, as far as there is room. A stretch that changes needs them again,
+    and they may have come by any reader."""
+
+    def __init__(self, most: int) -> None:
+        self._most = most
+        self._lock = threading.Lock()
+        self._bytes = 0
+        self._kept: 'collections.OrderedDict[Place, Array]' = collections.OrderedDict()
+
+    def find(self, place: Place) -> Optional[Array]:
+        """Returns the samples of a tile, if they are kept."""
+        with self._lock:
+            if place in self._kept:
+                self._kept.move_to_end(place)
+            return self._kept.get(place)
+
+    def keep(self, place: Place, samples: Array) -> None:
+        """Keeps the samples of a tile, and drops those that weren't used for longest."""
+        with self._lock:
+            if place not in self._kept:
+                self._kept[place] = samples
+                self._bytes += samples.nbytes
+            while self._bytes > self._most:
+                self._bytes -= self._kept.popitem(last=False)[1].nbytes
+
+
 class Layer:
     """A file of the viewer by its name. Its revision is looked at again once `seconds` have passed, and read in a thread of its own."""
 
@@ -151,6 +185,7 @@ class Layer:
         self._timeout = timeout
         self._seconds = seconds
         self._readers = Readers(self._open, readers)
+        self._samples = Samples(MOST_KEPT)
         self._lock = threading.Lock()
         self._known: Optional[Revision] = None
         self._look: Optional['futures.Future[Revision]'] = None
@@ -221,7 +256,7 @@ class Layer:
             raise Changed(revision.tag)
         return revision
 
-    def samples(self, revision: Revision, level: int, x: int, y: int, width: int, height: int) -> 'numpy.typing.NDArray[numpy.generic]':
+    def samples(self, revision: Revision, level: int, x: int, y: int, width: int, height: int) -> Array:
         """Reads a window of a revision. Raises `Changed` where the file is another one meanwhile."""
         with self._readers.reader(revision.tag) as file:
             samples, tag = file.read_tagged(x=x, y=y, width=width, height=height, level=level)
@@ -229,6 +264,15 @@ class Layer:
             with self._lock:
                 self._known = None if self._known is revision else self._known
             raise Changed(tag)
+        return samples
+
+    def tile_samples(self, revision: Revision, level: int, x: int, y: int, width: int, height: int) -> Array:
+        """Returns the samples of a tile of these sides: those that are kept, or what is read."""
+        place = revision.tag, level, x, y
+        samples = self._samples.find(place)
+        if samples is None:
+            samples = self.samples(revision, level, SIDE * x, SIDE * y, width, height)
+            self._samples.keep(place, samples)
         return samples
 
     def tile(self, tag: Optional[str], level: int, x: int, y: int, limits: Optional[Limits]) -> Tuple[bytes, str]:
@@ -239,7 +283,7 @@ class Layer:
         width, height = min(SIDE, columns - SIDE * x), min(SIDE, rows - SIDE * y)
         if width <= 0 or height <= 0:
             raise Nowhere
-        samples = stretched(self.samples(revision, level, SIDE * x, SIDE * y, width, height), limits or revision.limits)
+        samples = stretched(self.tile_samples(revision, level, x, y, width, height), limits or revision.limits)
         if (width, height) != (SIDE, SIDE):
             samples = _padded(samples)
         return png(samples), revision.tag
@@ -268,7 +312,7 @@ def _sides(revision: Revision, level: int) -> Tuple[int, int]:
     return revision.info.levels[level]
 
 
-def _padded(samples: 'numpy.typing.NDArray[numpy.generic]') -> 'numpy.typing.NDArray[numpy.generic]':
+def _padded(samples: Array) -> Array:
     """Returns a whole tile with these samples in its upper left corner, and one more sample in each pixel: 255, or 0 where it is empty."""
     height, width = samples.shape[:2]
     count = 1 if samples.ndim == 2 else samples.shape[2]

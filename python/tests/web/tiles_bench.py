@@ -31,9 +31,9 @@ def serve(way, url, name):
             key = f'level{level}'
             if not hasattr(kept, key):
                 setattr(kept, key, rasterio.open(url, **({'overview_level': level - 1} if level else {})))
-            read = getattr(kept, key).read(window=Window(x, y, width, height))
+            read = getattr(kept, key).read(window=Window(256 * x, 256 * y, width, height))
             return read[0] if len(read) == 1 else numpy.ascontiguousarray(read.transpose(1, 2, 0))
-        layer.samples = samples
+        layer.tile_samples = samples
         assert isinstance(layer, _layer.Layer) and revision.tag
     server = _server.Viewer([layer])
     print(server.server_port, flush=True)
