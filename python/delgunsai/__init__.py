@@ -16,8 +16,9 @@ from ._errors import (BadUrl, DirCount, DirPlace, Error, FieldType, FileFault, H
                       Missing, NotUsed, OutOfMemory, Outside, Packet, PastEnd, TagOrder, TileArray, TileSize, TooLarge, TooManyDirs,
                       Unsupported)
 from ._file import File, open, open_file
+from ._ground import Bounds, Crs, Transform
 from ._info import Info
 
-__all__ = ['BadUrl', 'DirCount', 'DirPlace', 'Error', 'FieldType', 'File', 'FileFault', 'Header', 'Info', 'KeyHead', 'KeyOrder',
-           'KeyPlace', 'LevelShape', 'Lost', 'Missing', 'NotUsed', 'OutOfMemory', 'Outside', 'Packet', 'PastEnd', 'TagOrder', 'TileArray',
-           'TileSize', 'TooLarge', 'TooManyDirs', 'Unsupported', 'open', 'open_file']
+__all__ = ['BadUrl', 'Bounds', 'Crs', 'DirCount', 'DirPlace', 'Error', 'FieldType', 'File', 'FileFault', 'Header', 'Info', 'KeyHead',
+           'KeyOrder', 'KeyPlace', 'LevelShape', 'Lost', 'Missing', 'NotUsed', 'OutOfMemory', 'Outside', 'Packet', 'PastEnd', 'TagOrder',
+           'TileArray', 'TileSize', 'TooLarge', 'TooManyDirs', 'Transform', 'Unsupported', 'open', 'open_file']

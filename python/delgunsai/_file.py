@@ -20,6 +20,7 @@ from ._core import Core, Piece
 from ._disk import Disk
 from ._errors import Error, Lost, NotUsed, fault_of
 from ._info import Info, read_info
+from ._raster import Raster
 from ._sources import Address, Carried, Host, Source, of_handler
 from ._threads import side_by_side
 
@@ -39,7 +40,7 @@ GREATEST = 2 ** 32 - 1
 LONGEST = 2 ** 31 // 1000                               # seconds that poll() takes
 
 
-class File:
+class File(Raster):
     """A file that is read by windows, each of one revision. One that was replaced is read as the new one from then on, and never mixed:
     `tag` tells which revision was read last, `read_tagged()` that of an array, and `same()` asks the server.
 
@@ -97,15 +98,34 @@ class File:
         """Whether it was closed."""
         return not self._open
 
-    def read(self, *, x: SupportsIndex, y: SupportsIndex, width: SupportsIndex, height: SupportsIndex,
-             level: SupportsIndex = 0) -> NDArray[Any]:
+    @property
+    def where(self) -> str:
+        """The URL, or the path, of the file."""
+        return self._source.where
+
+    def read(self, *, x: Optional[SupportsIndex] = None, y: Optional[SupportsIndex] = None, width: Optional[SupportsIndex] = None,
+             height: Optional[SupportsIndex] = None, level: SupportsIndex = 0, bounds: Optional[Sequence[float]] = None,
+             out_shape: Optional[Sequence[SupportsIndex]] = None) -> NDArray[Any]:
         """The samples of `width` columns from `x` and `height` rows from `y`, in pixels of the level: of shape (height, width), or
         (height, width, 3) of three samples, as uint8 or uint16. They are at most 4,194,304, as 2048 by 2048 of one sample are.
 
-        >>> f.read(x=3000, y=2000, width=256, height=256).dtype                       # doctest: +SKIP
-        dtype('uint8')
+        Instead of the four numbers `bounds` (left, bottom, right, top) gives the pixels that these map coordinates touch, and without
+        either the whole level is read. Both may be larger. With `out_shape` (rows, columns) the window is in pixels of level 0. It is read
+        from the smallest level in which it has that many rows and columns, and each sample is the nearest one. rasterio's arrays are
+        (count, rows, columns): `numpy.moveaxis(a, -1, 0)` of an RGB file. Bounds that pass a side of the image are a `ValueError`.
+
+        >>> f.read(x=24, y=30, width=4, height=2).tolist()
+        [[216, 221, 226, 231], [217, 222, 227, 232]]
+        >>> f.read(bounds=(106.24, 47.68, 106.28, 47.7)).tolist()
+        [[216, 221, 226, 231], [217, 222, 227, 232]]
+        >>> f.read(out_shape=(16, 32)).shape, f.read(level=2).shape
+        ((16, 32), (16, 16))
         """
-        return self._alone(self._window, self._core.open_window, _numbers(x=x, y=y, width=width, height=height, level=level))[0]
+        is_window = x is not None or y is not None or width is not None or height is not None
+        if is_window and bounds is None and out_shape is None:
+            window: Any = {'x': x, 'y': y, 'width': width, 'height': height, 'level': level}
+            return self._alone(self._window, self._core.open_window, _numbers(**window))[0]
+        return self._read_as(x, y, width, height, level, bounds, out_shape)
 
     def read_columns(self, *, x: SupportsIndex, y: SupportsIndex, width: SupportsIndex, height: SupportsIndex,
                      columns: SupportsIndex) -> NDArray[Any]:

@@ -24,10 +24,13 @@ class Info:
     """The numbers of ModelPixelScale, where it is there."""
     tiepoint: Optional[Tuple[float, ...]]
     """The numbers of ModelTiepoint."""
-    transform: Optional[Tuple[float, ...]]
-    """The 16 numbers of ModelTransformation, row by row. It is in few files, and isn't what rasterio calls transform: that is
-    `Affine(scale[0], 0, tiepoint[3] - tiepoint[0] * scale[0], 0, -scale[1], tiepoint[4] + tiepoint[1] * scale[1])`, or of this one, where
-    it is there, `Affine(*transform[0:2], *transform[3:6], transform[7])`; where key 1025 is 2, both are of the middles of pixels."""
+    model_transformation: Optional[Tuple[float, ...]]
+    """The 16 numbers of ModelTransformation, row by row, which few files have."""
+
+    @property
+    def transform(self) -> Optional[Tuple[float, ...]]:
+        """The old name of `model_transformation`, which isn't what rasterio calls transform: that is `File.transform`."""
+        return self.model_transformation
 
 
 def _doubles(words: List[str]) -> Tuple[float, ...]:

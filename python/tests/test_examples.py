@@ -34,9 +34,34 @@ class Examples(unittest.TestCase):
         parts = [whole[y:y + 16, x:x + 16].tolist() for y in range(0, 64, 16) for x in range(0, 64, 16)]
         self.assertEqual([array.tolist() for array in names['arrays']], parts)
 
+    def test_rasterio_of_docs(self):
+        """The lines of LIBRARY.md for those who know rasterio give what stands after them."""
+        with open(os.path.join(TOP, 'docs', 'LIBRARY.md'), encoding='utf-8') as file:
+            lines = re.search(r'### For those who know rasterio.*?```python\n(.*?)```', file.read(), re.DOTALL)[1]
+        names = {'delgunsai': delgunsai}
+        exec(lines.replace('docs/example.tif', EXAMPLE), names)
+        self.assertEqual([names[name].shape for name in 'abcd'], [(20, 20), (16, 32), (30, 32), (16, 16)])
+        self.assertEqual(names['text'][:4], b'\x89PNG')
+        with delgunsai.open_file(EXAMPLE) as file:
+            for line in lines.splitlines():
+                call, _, comment = line.strip().partition('  # ')
+                if call in ('f.shape, f.dtype, f.count', 'f.index(106.045, 47.985)'):
+                    self.assertTrue(comment.strip().startswith(repr(eval(call, {'f': file})).strip('()')) or
+                                    comment.strip().startswith(repr(eval(call, {'f': file}))), line)
+            self.assertEqual([round(number, 9) for number in file.xy(1, 4)], [106.045, 47.985])
+            self.assertIn(repr(file.crs), lines)
+
+    def test_leaflet_of_docs(self):
+        """The lines of USE.md for other pages are those of the example."""
+        with open(os.path.join(TOP, 'docs', 'USE.md'), encoding='utf-8') as file:
+            lines = re.search(r'```html\n(.*?)```', file.read(), re.DOTALL)[1]
+        with open(os.path.join(TOP, 'docs', 'leaflet.html'), encoding='utf-8') as file:
+            self.assertIn(lines, file.read())
+
     def test_docstrings(self):
-        for module in delgunsai, _disk, _errors, _file, _info, _sources, _threads:
-            self.assertEqual(doctest.testmod(module).failed, 0)
+        with delgunsai.open_file(EXAMPLE) as file:
+            for module in delgunsai, _disk, _errors, _file, _info, _sources, _threads:
+                self.assertEqual(doctest.testmod(module, extraglobs={'f': file}).failed, 0)
 
     def test_example_of_docs(self):
         """The samples that the README prints."""

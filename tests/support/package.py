@@ -1,0 +1,26 @@
+"""The Python package, installed for tests into a folder of its own."""
+import os, shutil, subprocess, sys
+
+from products import CORE, TOP
+
+TESTS = os.path.join(TOP, 'python/tests')
+
+def with_numpy(name):
+    """Goes on in Debian's Python, where this one lacks numpy."""
+    import importlib.util
+    if importlib.util.find_spec('numpy') is not None:
+        return
+    if sys.executable == '/usr/bin/python3' or not os.path.exists('/usr/bin/python3'):
+        sys.exit(f'{name}: numpy is missing (apt-get install python3-numpy python3-rasterio)')
+    os.execv('/usr/bin/python3', ['/usr/bin/python3', *sys.argv])
+
+def install(place):
+    """Installs the package into this folder from a copy of its own, and puts it and the tests' modules first among the paths."""
+    source = os.path.join(place, 'source')
+    shutil.copytree(os.path.join(TOP, 'python'), source, ignore=shutil.ignore_patterns('build', '*.egg-info', '__pycache__', '*.so'))
+    done = subprocess.run([sys.executable, '-m', 'pip', 'install', '-q', '--no-build-isolation', '--no-deps', '--no-index', '--target',
+                           os.path.join(place, 'package'), source], capture_output=True, text=True,
+                          env={**os.environ, 'DELGUNSAI_CORE': CORE, 'PIP_ROOT_USER_ACTION': 'ignore'})
+    if done.returncode != 0:
+        sys.exit(done.stdout + done.stderr)
+    sys.path[:0] = [os.path.join(place, 'package'), TESTS]
