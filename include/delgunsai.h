@@ -93,8 +93,9 @@ void cog_client_free(struct cog_client *client);
 int32_t cog_client_forget(struct cog_client *client);
 
 /* cog_client_keep_open: writes all requests but the check without `Connection: close` from here on, so that a connection may be kept from
- * one to the next. The caller has to know then where an answer ends (RFC 9112, section 6.3), and feeds no byte behind it. Gives 0 or
- * COG_NO_CLIENT. */
+ * one to the next. The caller has to know then where an answer ends (RFC 9112, section 6.3), and feeds no byte after it. It ends the
+ * connection after an answer that isn't used: where cog_client_end says COG_IGNORED. What is left of such an answer could be read as the
+ * next one, and pixels can look like an answer. It ends it, too, where bytes come that no request asked for. Gives 0 or COG_NO_CLIENT. */
 int32_t cog_client_keep_open(struct cog_client *client);
 
 /* cog_client_look_ahead: looks ahead by so many blocks from here on: a request asks, behind the blocks that are missing of the range that is
