@@ -58,7 +58,8 @@ class Viewer(http.server.ThreadingHTTPServer):
         self.origin = origin
         self.seconds = seconds
         super().__init__((HOST, port), Handler)
-        self.hosts = {f'{host}:{self.server_port}' for host in (HOST, 'localhost')}
+        names = HOST, 'localhost'
+        self.hosts = {f'{name}:{self.server_port}' for name in names} | set(names if self.server_port == 80 else ())
 
     @property
     def url(self) -> str:
@@ -168,8 +169,7 @@ def described(layer: Layer, revision: Revision) -> Dict[str, Any]:
     crs = revision.crs
     return {'name': layer.name, 'place': layer.place, 'tag': revision.tag, 'levels': revision.info.levels, 'tile': SIDE,
             'samples': revision.samples, 'most': revision.most, 'limits': revision.limits, 'percentiles': revision.percentiles,
-            'extent': revision.extent,
-            'transform': revision.transform, 'bounds': revision.bounds,
+            'extent': revision.extent, 'transform': revision.transform, 'bounds': revision.bounds,
             'crs': None if crs is None else {'epsg': crs.epsg, 'text': crs.text}}
 
 

@@ -238,12 +238,13 @@ class Several(InBrowser):
         self.no_errors()
 
     def test_five(self):
-        """Five files of other systems and sides show the same part."""
+        """Five files of other sides and of other places, some of one system, show the same part."""
         names = ['grey', 'rgb', 'wide', 'packed', 'turned']
         with View(*(ten_files()[name] for name in names)) as view:
             self.page.open(view.url)
             for number, name in enumerate(names):
-                self.assertIn(name, self.page.wait(number)['place' + 'Words'])
+                self.assertIn(name, self.page.wait(number)['placeWords'])
+                self.assertTrue((self.page.screenshot(number)[60:-4] != (20, 23, 28)).any(), name)
         self.no_errors()
 
 

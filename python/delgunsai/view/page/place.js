@@ -63,7 +63,17 @@ export function viewIn(info, guide, view) {
   return {zoom, x: u * newWidth, y: v * newHeight};
 }
 
-const isSameMap = (one, other) => one.crs !== null && JSON.stringify(one.crs) === JSON.stringify(other.crs);
+// Whether two files are of one reference system, and of places that overlap.
+function isSameMap(one, other) {
+  const isSameSystem = one.crs !== null && JSON.stringify(one.crs) === JSON.stringify(other.crs);
+  return isSameSystem && [0, 1].every(axis => {
+    const own = sidesOf(one, axis), others = sidesOf(other, axis);
+    return own[0] < others[1] && others[0] < own[1];
+  });
+}
+
+// The least and the greatest map coordinate of an image, across (0) or up (1).
+const sidesOf = ({bounds}, axis) => [Math.min(bounds[axis], bounds[axis + 2]), Math.max(bounds[axis], bounds[axis + 2])];
 const sizeOf = ({transform: [a, b, , d, e]}) => Math.sqrt(Math.abs(a * e - b * d)) || 1;
 
 // The zoom with the nearest number of pixels of level 0 for each one on the screen.
