@@ -5,7 +5,7 @@ use fixtures_support::{Field, FieldType, Order, Values, f3, push_directory, push
 use std::process::Abort;
 use std::test::Fail;
 use tiff_dir::{FileFault, Level, Pick, Query};
-use tile_plan::{Rectangle, rect};
+use tile_plan::{Rect, rect};
 
 /// The numbers of a window, and its pick.
 type Asked = (u32, u32, u32, u32, Pick);
@@ -50,7 +50,7 @@ fn compare(rt: &impl Abort, levels: &[Level], rows: &[(Asked, Result<Numbers, Fi
             pick: *pick,
         };
         let answer = rect(levels, query);
-        let want = want.map(|(level, x, y, w, h)| Rectangle { level, x, y, w, h });
+        let want = want.map(|(level, x, y, w, h)| Rect { level, x, y, w, h });
         expect_eq!(rt; answer, want, "{query:?}");
     }
 }

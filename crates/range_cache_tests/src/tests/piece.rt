@@ -43,7 +43,5 @@ pub fn read(cache: &mut Cache, complete: u64, first: u64, out: &mut [u8]) -> Res
     requires some { 0 < length out.old }
     requires within { first + length out.old ≤ complete }
 {
-    cache.touch(complete, first, out.len())?;
-    cache.copy_at(first, out);
-    Ok(())
+    cache.read_into(complete, first, out)
 }
