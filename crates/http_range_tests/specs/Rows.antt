@@ -98,7 +98,7 @@ part_lines range length =
     (codes "etag", tag_1) ∷ (codes "Content-Range", range) ∷ (codes "Content-Length", length) ∷ []
 
 abbrev pub part_head : List ℕ → List ℕ → SeenHead
-part_head range length = record { status = 206; fields = part_lines range length; size = 171 }
+part_head range length = record { status = 206; minor = 1; fields = part_lines range length; size = 171 }
 
 -- the bytes 5 to 7 of a file of 9
 abbrev pub three_of_nine : Announced
@@ -108,9 +108,9 @@ pub record HeadRows : Type 0 where
   pub part : announced_of (part_head (codes "bytes 5-7/9") (codes "3")) ≡ Ok three_of_nine
   pub no_range : announced_of (part_head (codes "bytes */9") (codes "3")) ≡ Err NoRange
   pub no_length : announced_of (part_head (codes "bytes 5-7/9") (codes "4")) ≡ Err NoLength
-  pub whole : announced_of (record { status = 200; fields = part_lines (codes "bytes */9") (codes "4"); size = 80 })
+  pub whole : announced_of (record { status = 200; minor = 1; fields = part_lines (codes "bytes */9") (codes "4"); size = 80 })
       ≡ Ok (record { tag = tag_1; whole = true; first = 0; complete = 4; length = 4; size = 80 })
-  pub status : announced_of (record { status = 304; fields = []; size = 61 }) ≡ Err (Status 304)
+  pub status : announced_of (record { status = 304; minor = 1; fields = []; size = 61 }) ≡ Err (Status 304)
   -- the body is what follows the head: none of it, some, and all; bytes after that are passed over
   pub none : body_behind three_of_nine (replicate 171 7) ≡ []
   pub some : body_behind three_of_nine (replicate 171 7 ++ 1 ∷ 2 ∷ []) ≡ 1 ∷ 2 ∷ []
