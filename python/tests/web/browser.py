@@ -1,15 +1,16 @@
 """A headless Chromium, and a viewer in a process of its own."""
-import io
 import os
 import subprocess
 import sys
 import time
+import unittest
 
 import delgunsai
 import numpy
 from selenium import webdriver
 from selenium.webdriver.chrome.service import Service
 
+from files import as_rasterio
 from support import FOLDER
 
 PACKAGE = os.path.dirname(os.path.dirname(delgunsai.__file__))
@@ -126,3 +127,35 @@ def expected(whole, link, sides, back=(20, 23, 28)):
     right, bottom = min(left + width, large.shape[1]), min(top + height, large.shape[0])
     screen[max(0, -top):bottom - top, max(0, -left):right - left] = large[max(0, top):bottom, max(0, left):right]
     return screen
+
+
+def whole_of(path, level=0):
+    """What rasterio reads of a level."""
+    import rasterio
+    with rasterio.open(path, **({'overview_level': level - 1} if level else {})) as source:
+        return as_rasterio(path, level, (0, 0, source.width, source.height))
+
+
+class InBrowser(unittest.TestCase):
+    @classmethod
+    def setUpClass(cls):
+        cls.driver = chromium()
+        cls.page = Page(cls.driver)
+
+    @classmethod
+    def tearDownClass(cls):
+        cls.driver.quit()
+
+    def check_screen(self, whole, number=0, link=None):
+        """The screen shows these samples of a level at the place of the link."""
+        told = self.page.panel(number)
+        shot = self.page.screenshot(number)
+        wanted = expected(whole, link or self.page.link(), told['box'][2:])
+        if told['isNotice']:
+            shot, wanted = shot[60:], wanted[60:]          # a sentence stands above
+        shot, wanted = shot[:-4], wanted[:-4]              # the bar of progress
+        self.assertEqual(shot.shape, wanted.shape)
+        self.assertEqual(int((shot != wanted).sum()), 0, (told, link))
+
+    def no_errors(self):
+        self.assertEqual(self.page.errors(), [])
