@@ -4,12 +4,14 @@ use Rattle.cog_client.specs.Client.{ClientState}
 use Rattle.world.specs.declared.event.Event.{Event}
 use Rattle.world.specs.declared.event.Entry.{Entry}
 use Rattle.world.specs.Run.{IsBeginning, Runs}
-use Rattle.world.specs.World.{AtEach, IsTrueEntry, start}
+use Rattle.world.specs.World.{AreAlike, AtEach, IsTrueEntry, start}
+use Rattle.world.specs.Progress.{AllReport, IsNeededEntry}
 use Rattle.scripts.specs.Script.{AreEvents, Finds, lines}
 use Rattle.scripts.specs.LogText.{text_of_log}
 
 -- It is the text of a log: of a run of the events that the lines of the script are, whose files were found so. Each report in it is true of
--- one file. Where memory is wanting for the run it is such a log of the first events.
+-- one file, those of one tag and one query say the same, each request is for what its query needs, and a report comes by its cost. Where
+-- memory is wanting for the run it is such a log of the first events.
 pub record IsPrinted {A E : Type 0} (finds : Finds) (script : List ℕ) (ran : Result A E) (printed : List ℕ) : Type 0 where
   pub events : List Event
   pub entries : List Entry
@@ -17,5 +19,8 @@ pub record IsPrinted {A E : Type 0} (finds : Finds) (script : List ℕ) (ran : R
   pub reads : AreEvents finds (lines script) events
   pub logged : OnOk ran (Runs start [] events entries clients)
   pub true_reports : OnOk ran (AtEach IsTrueEntry start events entries)
-  pub memory : OnErr ran (IsBeginning events entries)
+  pub alike : OnOk ran (AreAlike entries)
+  pub needed : OnOk ran (AtEach IsNeededEntry start events entries)
+  pub progress : OnOk ran (AllReport events entries)
+  pub memory : OnErr ran (IsBeginning events entries clients)
   pub text : printed ≡ text_of_log entries

@@ -2,7 +2,8 @@
 ghost use Rattle.std.specs.Prelude.{[], ℕ, List, IfOk, OnErr, OnOk};
 ghost use Rattle.std.specs.Io.KnownBytes.{Appends};
 ghost use Rattle.world.specs.Run.{IsBeginning, Runs};
-ghost use Rattle.world.specs.World.{AtEach, IsTrueEntry, start};
+ghost use Rattle.world.specs.World.{AreAlike, AtEach, IsTrueEntry, start};
+ghost use Rattle.world.specs.Progress.{AllReport, IsNeededEntry};
 ghost use Rattle.programs.specs.Printed.{IsPrinted};
 
 use crate::disk::Disk;
@@ -27,7 +28,10 @@ fn log_of(alloc: Global, events: &[Event], piece: Option<u32>) -> (Log, Result<(
     // It is of these events, each in its turn, and each report is true of one file.
     ensures logged { OnOk result.1 (Runs start [] events.now result.0.entries.items result.0.clients.items) }
     ensures true_reports { OnOk result.1 (AtEach IsTrueEntry start events.now result.0.entries.items) }
-    ensures memory { OnErr result.1 (IsBeginning events.now result.0.entries.items) }
+    ensures alike { OnOk result.1 (AreAlike result.0.entries.items) }
+    ensures needed { OnOk result.1 (AtEach IsNeededEntry start events.now result.0.entries.items) }
+    ensures progress { OnOk result.1 (AllReport events.now result.0.entries.items) }
+    ensures memory { OnErr result.1 (IsBeginning events.now result.0.entries.items result.0.clients.items) }
 {
     let mut log = Log::new(alloc);
     let ran = match piece {
@@ -37,8 +41,10 @@ fn log_of(alloc: Global, events: &[Event], piece: Option<u32>) -> (Log, Result<(
     (log, ran)
 }
 
-/// Runs a script and writes its log, and says whether memory was wanting for the run, which ends the log.
-fn write_log<S: Source, W: Write>(
+/// Runs a script and writes its log: answers are handed over whole, or in pieces of `piece` bytes. Returns whether memory was wanting for
+/// the run, which ends the log. Fails where the script isn't read, where `out` fails, or where memory is wanting for the text; then
+/// nothing is said of what was written.
+pub fn write_log<S: Source, W: Write>(
     alloc: Global,
     text: &[u8],
     source: &mut S,

@@ -10,6 +10,7 @@ mod exit;
 mod number;
 mod stored;
 
+pub use cogworld::write_log;
 pub use command::run;
 pub use disk::Disk;
 pub use exit::Exit;
