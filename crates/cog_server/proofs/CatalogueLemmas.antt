@@ -1,9 +1,9 @@
 -- Files on a shelf, and the catalogue that they are.
-use Rattle.std.proofs.Common.{◌≡◌, ℕ, zero, suc, ◌+◌, ◌-◌, ◌<◌, ◌≤◌, Bool, true, false, cond, List, [], ◌∷◌, ◌++◌, length, map, Option, Some, None, refl, sym, ap, ◌∙◌, arith, inl, inr}
+use Rattle.std.proofs.Common.{◌≡◌, ℕ, zero, suc, ◌+◌, ◌-◌, ◌<◌, ◌≤◌, ◌||◌, Bool, true, false, not, cond, List, [], ◌∷◌, ◌++◌, length, map, Option, Some, None, refl, sym, ap, ◌∙◌, arith, inl, inr}
 use Rattle.std.specs.Prelude.{slice_set, is_none, is_some, IfSome}
 use Rattle.std.proofs.Common.{Bor}
-use Rattle.std.specs.Option.{option_map, option_copied}
-use Rattle.std.specs.List.{find, position, position_from}
+use Rattle.std.specs.Option.{option_map, option_map_or, option_copied}
+use Rattle.std.specs.List.{list_any, find, position, position_from}
 use Rattle.std.specs.Str.{bytes_eq}
 use Rattle.std.proofs.lemmas.Bool.{cases_Bool}
 use Rattle.std.proofs.lemmas.Option.{same_Some, none-some}
@@ -12,6 +12,7 @@ use Rattle.std.proofs.lemmas.Iterator.Adapters.{position_from-zero}
 use Rattle.http_range.specs.Book.{Publication, Catalogue, published, publish}
 use Rattle.cog_server.specs.declared.published.Published.{Published}
 use Rattle.cog_server.specs.Catalogue.{publication, put_at}
+use Rattle.cog_server.specs.Status.{Status, is_outdated}
 
 abbrev pub is_named : List ℕ → Publication → Bool
 is_named name p = bytes_eq p.name name
@@ -107,3 +108,17 @@ none_by (Some x) e = sym e
 pub some_by : {A : Type 0} (o : Option A) → is_some o ≡ true → is_none o ≡ false
 some_by None e = sym e
 some_by (Some x) e = refl
+
+-- ---- tags
+
+any_tagged : (tag : List ℕ) (files : List Published)
+    → list_any (λ file. bytes_eq file.tag tag) files ≡ list_any (λ p. bytes_eq p.tag tag) (map publication files)
+any_tagged tag [] = refl
+any_tagged tag (f ∷ files) = ap (λ (b : Bool). bytes_eq f.tag tag || b) (any_tagged tag files)
+
+-- no file has the tag of what is kept
+pub outdated_by : (tag : List ℕ) (files : List Published) (catalogue : Catalogue) (s : Status) (has : Bool) → s.tag ≡ Some tag
+    → has ≡ list_any (λ file. bytes_eq file.tag tag) files → map publication files ≡ catalogue → not has ≡ is_outdated catalogue s
+outdated_by tag files catalogue s has kept is from =
+    ap not (is ∙ any_tagged tag files ∙ ap (λ (cs : Catalogue). list_any (λ (p : Publication). bytes_eq p.tag tag) cs) from)
+    ∙ ap (λ (o : Option (List ℕ)). option_map_or (λ (t : List ℕ). not (list_any (λ (p : Publication). bytes_eq p.tag t) catalogue)) o false) (sym kept)

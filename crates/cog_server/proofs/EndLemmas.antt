@@ -1,5 +1,5 @@
 -- Serving a stream: how it ends, and what is told of that.
-use Rattle.std.proofs.Common.{◌≡◌, ◌==◌, ℕ, ◌<◌, Bool, true, false, List, [], ◌∷◌, ◌++◌, length, Option, Some, Result, Ok, Err, refl, sym, ap, ◌∙◌, subst, arith, append-nil, length-append, inl, inr}
+use Rattle.std.proofs.Common.{◌≡◌, ◌==◌, ℕ, suc, ◌<◌, Bool, true, false, List, [], ◌∷◌, ◌++◌, length, Option, Some, Result, Ok, Err, refl, sym, ap, ◌∙◌, subst, arith, append-nil, length-append, inl, inr}
 use Rattle.std.specs.Prelude.{IsErrAnd, ◌⊎◌}
 use Rattle.std.specs.List.{list_any}
 use Rattle.std.specs.Io.KnownBytes.{append_known}
@@ -16,12 +16,13 @@ use Rattle.cog_server.specs.declared.served.Ended.TheVariants.{Closed as told_cl
 use Rattle.cog_server.specs.declared.served.Served.{Served}
 use Rattle.cog_server.specs.declared.served.ServeError.{ServeError}
 use Rattle.cog_server.specs.declared.served.ServeError.TheVariants.{Read, Write, Memory}
+use Rattle.cog_server.specs.Additions.{plain}
 use Rattle.cog_server.specs.Received.{Gives, Receives}
-use Rattle.cog_server.specs.Run.{AreExchanges, Exchange, IsAnsweredAlone, Past, messages_of, responses_of}
+use Rattle.cog_server.specs.Run.{AreExchanges, AreFrom, Exchange, IsAnsweredAlone, Past, messages_of, responses_of}
 use Rattle.cog_server.specs.Sent.{IsBroken, Writes}
 use Rattle.cog_server.specs.Serve.{AreFirstAnswers, IsBehind, IsLittleAhead, Serves, ending_told, read_failed, write_failed}
 use Rattle.cog_server.specs.Status.{EndsBy, Status, after_bytes, is_closing}
-use Rattle.cog_server.proofs.RunLemmas.{all_from_one, apart, behind, bytes_came, first_of, neither}
+use Rattle.cog_server.proofs.RunLemmas.{all_from_one, apart, behind, bytes_came, first_of, neither, went_plain}
 use Rattle.cog_server.proofs.ServeLemmas.{known_none, known_more, past, ahead, Going, none_lost, Answering, IsOpen}
 
 -- what was read and written, and what is told of it
@@ -31,16 +32,16 @@ Outcome catalogue given given' taken taken' is_over result =
     (stream : List ℕ) × (text : List ℕ) × (given' ≡ append_known given stream) × (taken' ≡ append_known taken text)
     × Serves catalogue stream text is_over result
 
-are_behind : MessagesStay → (es : List Exchange) (later : List ℕ) → AreExchanges es → IsBehind (length es) (messages_of es ++ later) later
-are_behind law [] later lawful = refl
-are_behind law (e ∷ es) later lawful = (
+are_behind : MessagesStay → (n : ℕ) (es : List Exchange) (later : List ℕ) → AreExchanges n es → IsBehind (length es) (messages_of es ++ later) later
+are_behind law n [] later lawful = refl
+are_behind law n (e ∷ es) later lawful = (
   e.message,
   first_of law e.message later es lawful.0.whole,
-  subst (λ (xs : List ℕ). IsBehind (length es) xs later) (sym (behind e.message later es)) (are_behind law es later lawful.2),
+  subst (λ (xs : List ℕ). IsBehind (length es) xs later) (sym (behind e.message later es)) (are_behind law (suc n) es later lawful.2),
 )
 
 count_of : (es : List Exchange) → length (responses_of es) ≡ length es
-count_of es = length-map es (λ (e : Exchange). e.response)
+count_of es = length-map es (λ (e : Exchange). e.sent.response)
 
 little_ahead : MessagesStay → (p : Past) → IsAnsweredAlone p → ahead p.status < MESSAGE_LIMIT
     → IsLittleAhead (length (responses_of p.exchanges)) p.given
@@ -51,13 +52,15 @@ little_ahead law p h little =
     record {
       rest = rest;
       behind = subst (λ (n : ℕ). IsBehind n p.given rest) (sym (count_of p.exchanges))
-          (subst (λ (xs : List ℕ). IsBehind (length p.exchanges) xs rest) (sym h.came) (are_behind law p.exchanges rest h.lawful));
+          (subst (λ (xs : List ℕ). IsBehind (length p.exchanges) xs rest) (sym h.came) (are_behind law 0 p.exchanges rest h.lawful));
       little = omega arith;
     }
 
 -- nothing waits, so all answers are written
-all_written : (p : Past) → IsAnsweredAlone p → p.status.waiting ≡ [] → p.written ≡ answers_text (responses_of p.exchanges)
-all_written p h silent = sym (append-nil p.written) ∙ ap (λ (xs : List ℕ). p.written ++ xs) (sym silent) ∙ h.went
+all_written : (catalogue : Catalogue) (p : Past) → IsAnsweredAlone p → AreFrom (plain catalogue) p.exchanges → p.status.waiting ≡ []
+    → p.written ≡ answers_text (responses_of p.exchanges)
+all_written catalogue p h from silent =
+    sym (append-nil p.written) ∙ ap (λ (xs : List ℕ). p.written ++ xs) (sym silent) ∙ went_plain catalogue p h from
 
 ending_by : (p : Past) (ended : Ended) → IsAnsweredAlone p → EndsBy p.status (Some ended) → ending_told ended ≡ ending_of (responses_of p.exchanges)
 ending_by p told_closed h by =
@@ -113,7 +116,7 @@ ends {catalogue} {s = s} law ended count h by is =
       record {
         rs = responses_of h.exchanges;
         answers = (all_from_one law catalogue p h.alone h.from).all why;
-        written = all_written p h.alone (silent_by s ended by);
+        written = all_written catalogue p h.alone h.from (silent_by s ended by);
         counted = is ∙ h.alone.counted ∙ sym (count_of h.exchanges);
         ending = ending_by p ended h.alone by;
         over = over_by p ended h.alone by h.over;
@@ -138,7 +141,7 @@ ends_read {catalogue} {given' = given'} {s = s} is_over' law h silent is same =
       record {
         rs = responses_of h.exchanges;
         answers = (all_from_one law catalogue p h.alone h.from).all (inr is.unfinished);
-        written = all_written p h.alone silent;
+        written = all_written catalogue p h.alone h.from silent;
         ending = rw (stays, other) refl;
         ahead = little_ahead law p h.alone (little_ended law p h.alone h.little (inr is.unfinished));
       },
@@ -157,7 +160,7 @@ ends_memory {catalogue} {s = s} is_over' law h silent same =
       record {
         rs = responses_of h.exchanges;
         answers = (all_from_one law catalogue p h.alone h.from).first;
-        written = all_written p h.alone silent;
+        written = all_written catalogue p h.alone h.from silent;
       },
     )
 
@@ -174,7 +177,7 @@ lost_bytes {catalogue} {given} {given'} {given''} {s = s} is_over' bytes law h s
       record {
         rs = responses_of h.exchanges;
         answers = (all_from_one law catalogue (past (h.stream ++ bytes) h.text h.exchanges (after_bytes bytes s)) alone h.from).first;
-        written = all_written (past h.stream h.text h.exchanges s) h.alone silent;
+        written = all_written catalogue (past h.stream h.text h.exchanges s) h.alone h.from silent;
       },
     )
 
@@ -194,9 +197,9 @@ ends_write {catalogue} {taken = taken} {taken' = taken'} {taken'' = taken''} {s 
     let h = answering.going in
     let p = past h.stream h.text h.exchanges s in
     let whole = responses_of answering.before in
-    let last = answering.last.response in
+    let last = answering.last.sent.response in
     let all : responses_of h.exchanges ≡ whole ++ last ∷ [] =
-    ap responses_of answering.next ∙ map-append (λ (e : Exchange). e.response) answering.before (answering.last ∷ []) in (
+    ap responses_of answering.next ∙ map-append (λ (e : Exchange). e.sent.response) answering.before (answering.last ∷ []) in (
       h.stream,
       h.text ++ broken.written,
       h.gave,

@@ -1,3 +1,4 @@
+pub mod AdditionsLemmas
 pub mod CatalogueLemmas
 pub mod PlaceLemmas
 pub mod PublishLemmas

@@ -13,8 +13,9 @@ use Rattle.http_range.specs.Laws.{MessagesStay}
 use Rattle.http_range.specs.Response.{Response, IsAnswer, text_of}
 use Rattle.http_range.specs.Stream.{AreAnswers, IsFirstMessage, IsMessage, IsUnfinished, IsAnswered, answers_text}
 use Rattle.http_range.specs.Stream.AreAnswers.{full, unfinished, closed, more}
+use Rattle.cog_server.specs.Additions.{IsSent, Sent, ServiceState, plain}
 use Rattle.cog_server.specs.Status.{is_closing, IsNext, after_message}
-use Rattle.cog_server.specs.Run.{Exchange, IsExchange, AreExchanges, messages_of, responses_of, Past, IsAnsweredAlone, none_yet, Event, CanHappen, happened, run, CanRun, RunsAreAnswered, AreFrom, RunsAreServed}
+use Rattle.cog_server.specs.Run.{Exchange, IsExchange, AreExchanges, messages_of, responses_of, texts_of, Past, IsAnsweredAlone, none_yet, Event, CanHappen, happened, run, CanRun, RunsAreAnswered, AreFrom, RunsAreServed}
 use Rattle.cog_server.specs.Run.Event.{Came, Came_to_end, Answered, Wrote}
 
 -- ---- tests and lists
@@ -49,28 +50,28 @@ alone stream message is = record {
 
 -- ---- exchanges
 
-one_more : (es : List Exchange) (e : Exchange) → AreExchanges es → list_any (λ r. r.close) (responses_of es) ≡ false → IsExchange e
-    → AreExchanges (es ++ e ∷ [])
-one_more [] e h none is = (is, λ _. refl, tt)
-one_more (x ∷ es) e h none is =
-    let both = neither x.response.close (list_any (λ (r : Response). r.close) (responses_of es)) none in
-    (h.0, λ last. apart x.response.close last both.0, one_more es e h.2 both.1 is)
+one_more : (n : ℕ) (es : List Exchange) (e : Exchange) → AreExchanges n es → list_any (λ r. r.close) (responses_of es) ≡ false
+    → IsExchange (n + length es) e → AreExchanges n (es ++ e ∷ [])
+one_more n [] e h none is = (let at : n + 0 ≡ n = omega arith in subst (λ (k : ℕ). IsExchange k e) at is, λ _. refl, tt)
+one_more n (x ∷ es) e h none is =
+    let both = neither x.sent.response.close (list_any (λ (r : Response). r.close) (responses_of es)) none in
+    let at : n + suc (length es) ≡ suc n + length es = omega arith in
+    (h.0, λ last. apart x.sent.response.close last both.0, one_more (suc n) es e h.2 both.1 (subst (λ (k : ℕ). IsExchange k e) at is))
 
 any_more : (es : List Exchange) (e : Exchange) → list_any (λ r. r.close) (responses_of es) ≡ false
-    → e.response.close ≡ list_any (λ r. r.close) (responses_of (es ++ e ∷ []))
+    → e.sent.response.close ≡ list_any (λ r. r.close) (responses_of (es ++ e ∷ []))
 any_more es e none =
-    sym (ap (list_any (λ (r : Response). r.close)) (map_end (λ (x : Exchange). x.response) es e)
-    ∙ list_any-append (λ (r : Response). r.close) (responses_of es) (e.response ∷ [])
-    ∙ ap (λ (b : Bool). b || (e.response.close || false)) none ∙ or_end e.response.close)
+    sym (ap (list_any (λ (r : Response). r.close)) (map_end (λ (x : Exchange). x.sent.response) es e)
+    ∙ list_any-append (λ (r : Response). r.close) (responses_of es) (e.sent.response ∷ [])
+    ∙ ap (λ (b : Bool). b || (e.sent.response.close || false)) none ∙ or_end e.sent.response.close)
 
 messages_more : (es : List Exchange) (e : Exchange) → messages_of (es ++ e ∷ []) ≡ messages_of es ++ e.message
 messages_more es e =
     flat_map-append (λ (x : Exchange). x.message) es (e ∷ []) ∙ ap (λ (xs : List ℕ). messages_of es ++ xs) (append-nil e.message)
 
-text_more : (es : List Exchange) (e : Exchange) → answers_text (responses_of (es ++ e ∷ [])) ≡ answers_text (responses_of es) ++ text_of e.response
+text_more : (es : List Exchange) (e : Exchange) → texts_of (es ++ e ∷ []) ≡ texts_of es ++ e.sent.text
 text_more es e =
-    ap answers_text (map_end (λ (x : Exchange). x.response) es e) ∙ flat_map-append text_of (responses_of es) (e.response ∷ [])
-    ∙ ap (λ (xs : List ℕ). answers_text (responses_of es) ++ xs) (append-nil (text_of e.response))
+    flat_map-append (λ (x : Exchange). x.sent.text) es (e ∷ []) ∙ ap (λ (xs : List ℕ). texts_of es ++ xs) (append-nil e.sent.text)
 
 -- ---- events
 
@@ -136,16 +137,18 @@ bytes_written p n h = record {
 pub one_fewer : (n : ℕ) → n ≤ 100 → (n == 100) ≡ false → n + 1 ≤ 100
 one_fewer n few other = grind (arith, nat_tests)
 
-pub answer_given : MessagesStay → (p : Past) (e : Exchange) → IsNext e.catalogue p.status e.message e.response → IsAnsweredAlone p
+pub answer_given : MessagesStay → (p : Past) (e : Exchange) → IsNext e.service p.status e.message e.sent → IsAnsweredAlone p
     → IsAnsweredAlone (happened (Answered e) p)
 answer_given law p e is h =
     let s = p.status in
     let rest = drop (length e.message) s.held in
-    let after = after_message e.message e.response s in
+    let after = after_message e.message e.sent s in
     let open_still = neither s.is_closed (s.answers == 100) is.goes_on in
     let none : list_any (λ (r : Response). r.close) (responses_of p.exchanges) ≡ false = sym h.closed ∙ open_still.0 in
     let split = (law.short s.held e.message is.first).2 in
-    let lawful = one_more p.exchanges e h.lawful none (record { whole = alone s.held e.message is.first; answers = is.answers }) in
+    let at : s.answers ≡ 0 + length p.exchanges = omega (arith, h.counted) in
+    let own : IsExchange s.answers e = record { whole = alone s.held e.message is.first; answers = is.answers } in
+    let lawful = one_more 0 p.exchanges e h.lawful none (subst (λ (k : ℕ). IsExchange k e) at own) in
     let closed_now = any_more p.exchanges e none in
     let room : s.answers + 1 ≤ 100 = one_fewer s.answers (subst (λ (n : ℕ). n ≤ 100) (sym h.counted) h.few) open_still.1 in
     let few : length (p.exchanges ++ e ∷ []) ≤ 100 = omega (arith, room, h.counted, length-append p.exchanges (e ∷ [])) in
@@ -154,8 +157,8 @@ answer_given law p e is h =
     h.came ∙ ap (λ (xs : List ℕ). messages_of p.exchanges ++ (s.held ++ xs)) (h.kept is.goes_on)
     ∙ ap (λ (xs : List ℕ). messages_of p.exchanges ++ xs) (append-nil s.held ∙ sym split)
     ∙ sym (append_assoc (messages_of p.exchanges) e.message rest) ∙ ap (λ (xs : List ℕ). xs ++ rest) (sym (messages_more p.exchanges e)) in
-    let went : p.written ++ text_of e.response ≡ answers_text (responses_of (p.exchanges ++ e ∷ [])) =
-    ap (λ (xs : List ℕ). xs ++ text_of e.response)
+    let went : p.written ++ e.sent.text ≡ texts_of (p.exchanges ++ e ∷ []) =
+    ap (λ (xs : List ℕ). xs ++ e.sent.text)
     (sym (append-nil p.written) ∙ ap (λ (xs : List ℕ). p.written ++ xs) (sym is.written) ∙ h.went) ∙ sym (text_more p.exchanges e) in
     elim (cases_Bool (is_closing after)) [
       | inl shut ↦ rw shut (record {
@@ -195,26 +198,49 @@ pub behind : (message later : List ℕ) (es : List Exchange) → drop (length me
 behind message later es =
     ap (λ (xs : List ℕ). drop (length message) xs) (append_assoc message (messages_of es) later) ∙ drop-append_seam message (messages_of es ++ later)
 
-from_answer : (catalogue : Catalogue) (e : Exchange) → e.catalogue ≡ catalogue → IsExchange e → IsAnswer catalogue e.message e.response
-from_answer catalogue e same is = subst (λ (c : Catalogue). IsAnswer c e.message e.response) same is.answers
+-- where nothing is added, the answer of the table is sent
+plain_answer : (catalogue : Catalogue) (n : ℕ) (message : List ℕ) (sent : Sent) → IsSent (plain catalogue) n message sent
+    → IsAnswer catalogue message sent.response
+plain_answer catalogue n message sent is = (is.seen, is.reads, ap (λ (x : Sent). x.response) is.is)
 
-answered : MessagesStay → (catalogue : Catalogue) (es : List Exchange) (later : List ℕ) (left total : ℕ) → total ≡ length es + left
-    → AreExchanges es → AreFrom catalogue es → (list_any (λ r. r.close) (responses_of es) ≡ false → AreAnswers catalogue left later [])
+-- and its text
+pub plain_text : (catalogue : Catalogue) (n : ℕ) (message : List ℕ) (sent : Sent) → IsSent (plain catalogue) n message sent
+    → sent.text ≡ text_of sent.response
+plain_text catalogue n message sent is = ap (λ (x : Sent). x.text) is.is ∙ sym (ap (λ (x : Sent). text_of x.response) is.is)
+
+from_plain : (catalogue : Catalogue) (n : ℕ) (e : Exchange) → e.service ≡ plain catalogue → IsExchange n e → IsSent (plain catalogue) n e.message e.sent
+from_plain catalogue n e same is = subst (λ (s : ServiceState). IsSent s n e.message e.sent) same is.answers
+
+texts_plain : (catalogue : Catalogue) (n : ℕ) (es : List Exchange) → AreExchanges n es → AreFrom (plain catalogue) es
+    → texts_of es ≡ answers_text (responses_of es)
+texts_plain catalogue n [] lawful from = refl
+texts_plain catalogue n (e ∷ es) lawful from =
+    ap (λ (xs : List ℕ). xs ++ texts_of es) (plain_text catalogue n e.message e.sent (from_plain catalogue n e from.0 lawful.0))
+    ∙ ap (λ (xs : List ℕ). text_of e.sent.response ++ xs) (texts_plain catalogue (suc n) es lawful.2 from.1)
+
+-- so what is written and what waits are the answers of the table
+pub went_plain : (catalogue : Catalogue) (p : Past) → IsAnsweredAlone p → AreFrom (plain catalogue) p.exchanges
+    → p.written ++ p.status.waiting ≡ answers_text (responses_of p.exchanges)
+went_plain catalogue p h from = h.went ∙ texts_plain catalogue 0 p.exchanges h.lawful from
+
+answered : MessagesStay → (catalogue : Catalogue) (n : ℕ) (es : List Exchange) (later : List ℕ) (left total : ℕ) → total ≡ length es + left
+    → AreExchanges n es → AreFrom (plain catalogue) es → (list_any (λ r. r.close) (responses_of es) ≡ false → AreAnswers catalogue left later [])
     → AreAnswers catalogue total (messages_of es ++ later) (responses_of es)
-answered law catalogue [] later left total is lawful from last =
+answered law catalogue n [] later left total is lawful from last =
     let same : left ≡ total = omega (arith, is) in subst (λ (n : ℕ). AreAnswers catalogue n later []) same (last refl)
-answered law catalogue (e ∷ es) later left total is lawful from last =
+answered law catalogue n (e ∷ es) later left total is lawful from last =
     let same : suc (length es + left) ≡ total = omega (arith, is) in
     let first = first_of law e.message later es lawful.0.whole in
-    let answers = from_answer catalogue e from.0 lawful.0 in
-    subst (λ (n : ℕ). AreAnswers catalogue n ((e.message ++ messages_of es) ++ later) (e.response ∷ responses_of es)) same
-    (elim (cases_Bool e.response.close) [
-      | inl shut ↦ subst (λ (xs : List Response). AreAnswers catalogue (suc (length es + left)) ((e.message ++ messages_of es) ++ later) (e.response ∷ xs))
+    let r = e.sent.response in
+    let answers = plain_answer catalogue n e.message e.sent (from_plain catalogue n e from.0 lawful.0) in
+    subst (λ (n : ℕ). AreAnswers catalogue n ((e.message ++ messages_of es) ++ later) (r ∷ responses_of es)) same
+    (elim (cases_Bool r.close) [
+      | inl shut ↦ subst (λ (xs : List Response). AreAnswers catalogue (suc (length es + left)) ((e.message ++ messages_of es) ++ later) (r ∷ xs))
           (ap responses_of (sym (lawful.1 shut)))
-          (closed (length es + left) ((e.message ++ messages_of es) ++ later) e.message e.response first answers shut)
-      | inr stays ↦ more (length es + left) ((e.message ++ messages_of es) ++ later) e.message e.response (responses_of es) first answers stays
+          (closed (length es + left) ((e.message ++ messages_of es) ++ later) e.message r first answers shut)
+      | inr stays ↦ more (length es + left) ((e.message ++ messages_of es) ++ later) e.message r (responses_of es) first answers stays
           (subst (λ (xs : List ℕ). AreAnswers catalogue (length es + left) xs (responses_of es)) (sym (behind e.message later es))
-          (answered law catalogue es later left (length es + left) refl lawful.2 from.1 (λ none. last (rw stays none))))
+          (answered law catalogue (suc n) es later left (length es + left) refl lawful.2 from.1 (λ none. last (rw stays none))))
     ])
 
 hundred : (n : ℕ) → (n == 100) ≡ true → n ≡ 100
@@ -224,7 +250,7 @@ pub second : (a b : Bool) → (a || b) ≡ true → a ≡ false → b ≡ true
 second true b e isnt = let clash : true ≡ false = isnt in cc
 second false b e isnt = e
 
-all_served : MessagesStay → (catalogue : Catalogue) (p : Past) → IsAnsweredAlone p → AreFrom catalogue p.exchanges
+all_served : MessagesStay → (catalogue : Catalogue) (p : Past) → IsAnsweredAlone p → AreFrom (plain catalogue) p.exchanges
     → (is_closing p.status ≡ true) ⊎ IsUnfinished p.status.held → IsAnswered catalogue p.given (responses_of p.exchanges)
 all_served law catalogue p h from why =
     let s = p.status in
@@ -247,22 +273,23 @@ all_served law catalogue p h from why =
       ]
     ] in
     subst (λ (xs : List ℕ). AreAnswers catalogue 100 xs (responses_of p.exchanges)) (sym h.came)
-    (answered law catalogue p.exchanges rest (100 - n) 100 total h.lawful from last)
+    (answered law catalogue 0 p.exchanges rest (100 - n) 100 total h.lawful from last)
 
-first_served : MessagesStay → (catalogue : Catalogue) (p : Past) → IsAnsweredAlone p → AreFrom catalogue p.exchanges
+first_served : MessagesStay → (catalogue : Catalogue) (p : Past) → IsAnsweredAlone p → AreFrom (plain catalogue) p.exchanges
     → AreAnswers catalogue (length (responses_of p.exchanges)) p.given (responses_of p.exchanges)
 first_served law catalogue p h from =
     let rest = p.status.held ++ h.lost in
-    let total : length (responses_of p.exchanges) ≡ length p.exchanges + 0 = omega (arith, length-map p.exchanges (λ (e : Exchange). e.response)) in
+    let total : length (responses_of p.exchanges) ≡ length p.exchanges + 0 = omega (arith, length-map p.exchanges (λ (e : Exchange). e.sent.response)) in
     subst (λ (xs : List ℕ). AreAnswers catalogue (length (responses_of p.exchanges)) xs (responses_of p.exchanges)) (sym h.came)
-    (answered law catalogue p.exchanges rest 0 (length (responses_of p.exchanges)) total h.lawful from (λ _. full rest))
+    (answered law catalogue 0 p.exchanges rest 0 (length (responses_of p.exchanges)) total h.lawful from (λ _. full rest))
 
 pub all_from_one : MessagesStay → RunsAreServed
 all_from_one law catalogue p h from = record {
   first = record {
-    few = (let few = h.few in omega (arith, few, length-map p.exchanges (λ (e : Exchange). e.response)));
+    few = (let few = h.few in omega (arith, few, length-map p.exchanges (λ (e : Exchange). e.sent.response)));
     answers = first_served law catalogue p h from;
   };
+  sent = texts_plain catalogue 0 p.exchanges h.lawful from;
   all = all_served law catalogue p h from;
 }
 

@@ -6,14 +6,15 @@ use Rattle.std.proofs.lemmas.List.{drop_all, take_all}
 use Rattle.std.proofs.lemmas.Bool.{cases_Bool}
 use Rattle.http_range.specs.Book.{Catalogue}
 use Rattle.http_range.specs.Laws.{MessagesStay}
-use Rattle.http_range.specs.Response.{Response, text_of}
+use Rattle.http_range.specs.Response.{text_of}
 use Rattle.http_range.specs.Stream.{IsUnfinished, answers_text}
 use Rattle.http_fields.specs.declared.limits.TheConstants.{MESSAGE_LIMIT}
+use Rattle.cog_server.specs.Additions.{Sent, ServiceState, plain}
 use Rattle.cog_server.specs.Received.{IsReceived, after_read}
 use Rattle.cog_server.specs.Run.{AreFrom, Exchange, IsAnsweredAlone, Past, responses_of}
 use Rattle.cog_server.specs.Sent.{IsWritten}
 use Rattle.cog_server.specs.Status.{EndsBy, GoesOn, IsNext, Rests, Status, after_answer, after_bytes, after_message, after_write, is_closing, room_of, start}
-use Rattle.cog_server.proofs.RunLemmas.{answer_given, apart, bytes_came, bytes_written, end_came, neither, none_answered, one_fewer}
+use Rattle.cog_server.proofs.RunLemmas.{answer_given, apart, bytes_came, bytes_written, end_came, neither, none_answered, one_fewer, plain_text, went_plain}
 
 clash : {A : Type 0} → false ≡ true → A
 clash e = let f : true ≡ false = sym e in cc
@@ -50,7 +51,7 @@ pub record Going (catalogue : Catalogue) (given given' taken taken' : Option (Li
   pub gave : given' ≡ append_known given stream
   pub took : taken' ≡ append_known taken text
   pub alone : IsAnsweredAlone (past stream text exchanges s)
-  pub from : AreFrom catalogue exchanges
+  pub from : AreFrom (plain catalogue) exchanges
   pub over : s.is_over ≡ true → is_over
   pub few : ahead s ≤ MESSAGE_LIMIT
   pub little : is_closing s ≡ true → ahead s < MESSAGE_LIMIT
@@ -123,26 +124,26 @@ received {given = given} {given' = given'} {given'' = given''} {s = s} is_over' 
 
 -- ---- the next answer
 
-from_more : (catalogue : Catalogue) (es : List Exchange) (e : Exchange) → AreFrom catalogue es → e.catalogue ≡ catalogue
-    → AreFrom catalogue (es ++ e ∷ [])
-from_more catalogue [] e from is = (is, tt)
-from_more catalogue (x ∷ es) e from is = (from.0, from_more catalogue es e from.1 is)
+from_more : (service : ServiceState) (es : List Exchange) (e : Exchange) → AreFrom service es → e.service ≡ service
+    → AreFrom service (es ++ e ∷ [])
+from_more service [] e from is = (is, tt)
+from_more service (x ∷ es) e from is = (from.0, from_more service es e from.1 is)
 
-over_kept : (message : List ℕ) (r : Response) (s : Status) → (after_answer message r s).is_over ≡ s.is_over
+over_kept : (message : List ℕ) (r : Sent) (s : Status) → (after_answer message r s).is_over ≡ s.is_over
 over_kept message r s =
     elim (cases_Bool (is_closing (after_message message r s))) [
       | inl shut ↦ rw shut refl
       | inr stays ↦ rw stays refl
     ]
 
-ahead_after : (message : List ℕ) (r : Response) (s : Status) → s.dropped ≡ 0 → ahead (after_answer message r s) ≡ length (drop (length message) s.held)
+ahead_after : (message : List ℕ) (r : Sent) (s : Status) → s.dropped ≡ 0 → ahead (after_answer message r s) ≡ length (drop (length message) s.held)
 ahead_after message r s none =
     elim (cases_Bool (is_closing (after_message message r s))) [
       | inl shut ↦ rw shut (omega arith)
       | inr stays ↦ rw stays (omega (arith, none))
     ]
 
-waits_whole : (message : List ℕ) (r : Response) (s : Status) → (after_answer message r s).waiting ≡ text_of r
+waits_whole : (message : List ℕ) (r : Sent) (s : Status) → (after_answer message r s).waiting ≡ r.text
 waits_whole message r s =
     elim (cases_Bool (is_closing (after_message message r s))) [
       | inl shut ↦ rw shut refl
@@ -157,14 +158,14 @@ pub record Answering (catalogue : Catalogue) (given given' taken taken' : Option
   pub last : Exchange
   pub next : going.exchanges ≡ before ++ last ∷ []
   pub whole : going.text ≡ answers_text (responses_of before)
-  pub waits : s.waiting ≡ text_of last.response
+  pub waits : s.waiting ≡ text_of last.sent.response
 
 pub answers : {catalogue : Catalogue} {given given' taken taken' : Option (List ℕ)} {is_over : Type 0} {s : Status} → MessagesStay
-    → (message : List ℕ) (r : Response) → Going catalogue given given' taken taken' is_over s → IsNext catalogue s message r
+    → (message : List ℕ) (r : Sent) → Going catalogue given given' taken taken' is_over s → IsNext (plain catalogue) s message r
     → Answering catalogue given given' taken taken' is_over (after_answer message r s)
 answers {catalogue} {s = s} law message r h is =
     let p = past h.stream h.text h.exchanges s in
-    let e : Exchange = record { catalogue = catalogue; message = message; response = r } in
+    let e : Exchange = record { service = plain catalogue; message = message; sent = r } in
     let few = h.few in
     let short = law.short s.held message is.first in
     let some = short.0 in
@@ -180,7 +181,7 @@ answers {catalogue} {s = s} law message r h is =
         gave = h.gave;
         took = h.took;
         alone = answer_given law p e is h.alone;
-        from = from_more catalogue h.exchanges e h.from refl;
+        from = from_more (plain catalogue) h.exchanges e h.from refl;
         over = λ closed. h.over (sym (over_kept message r s) ∙ closed);
         few = omega (arith, less);
         little = λ closed. less;
@@ -189,8 +190,8 @@ answers {catalogue} {s = s} law message r h is =
       before = h.exchanges;
       last = e;
       next = refl;
-      whole = sym (append-nil h.text) ∙ ap (λ (xs : List ℕ). h.text ++ xs) (sym is.written) ∙ h.alone.went;
-      waits = waits_whole message r s;
+      whole = sym (append-nil h.text) ∙ ap (λ (xs : List ℕ). h.text ++ xs) (sym is.written) ∙ went_plain catalogue p h.alone h.from;
+      waits = waits_whole message r s ∙ plain_text catalogue s.answers message r is.answers;
     }
 
 -- a status says that a message was answered
@@ -293,7 +294,7 @@ some_room law s h =
 abbrev pub left : Status → ℕ
 left s = (100 - s.answers) * 8194 + (8192 - length s.held) + cond s.is_over 0 1
 
-answers_after : (message : List ℕ) (r : Response) (s : Status) → (after_answer message r s).answers ≡ s.answers + 1
+answers_after : (message : List ℕ) (r : Sent) (s : Status) → (after_answer message r s).answers ≡ s.answers + 1
 answers_after message r s =
     elim (cases_Bool (is_closing (after_message message r s))) [
       | inl shut ↦ rw shut refl
@@ -303,7 +304,7 @@ answers_after message r s =
 less_left : (a b x y o : ℕ) → b ≡ a + 1 → a + 1 ≤ 100 → y ≤ 8192 → (100 - b) * 8194 + y + o < (100 - a) * 8194 + x + o
 less_left a b x y o is room small = omega arith
 
-answer_smaller : (message : List ℕ) (r : Response) (s : Status) → s.answers + 1 ≤ 100
+answer_smaller : (message : List ℕ) (r : Sent) (s : Status) → s.answers + 1 ≤ 100
     → left (after_write (length (after_answer message r s).waiting) (after_answer message r s)) < left s
 answer_smaller message r s room =
     let t = after_answer message r s in

@@ -1,7 +1,9 @@
+pub mod Additions
 pub mod Catalogue
 pub mod Place
 pub mod Prepared
 pub mod Server
+pub mod Service
 pub mod Inside
 pub mod Moved
 pub mod Serve

@@ -1,34 +1,39 @@
 -- Whole runs of a connection: what came, what is written, and which message was answered from which catalogue.
-use Rattle.std.specs.Prelude.{◌≡◌, ◌≤◌, ◌⊎◌, ℕ, true, false, List, [], ◌∷◌, ◌++◌, length, map, take, ⊤}
+use Rattle.std.specs.Prelude.{◌≡◌, ◌≤◌, ◌⊎◌, ℕ, suc, true, false, List, [], ◌∷◌, ◌++◌, length, map, take, ⊤}
 use Rattle.std.specs.List.{list_any, flat_map}
 use Rattle.http_fields.specs.declared.limits.TheConstants.{ANSWERS_LIMIT}
 use Rattle.http_range.specs.Book.{Catalogue}
-use Rattle.http_range.specs.Response.{Response, IsAnswer}
+use Rattle.http_range.specs.Response.{Response}
 use Rattle.http_range.specs.Stream.{IsFirstMessage, IsUnfinished, IsAnswered, answers_text}
+use Rattle.cog_server.specs.Additions.{IsSent, Sent, ServiceState, plain}
 use Rattle.cog_server.specs.Serve.{AreFirstAnswers}
 use Rattle.cog_server.specs.Status.{Status, start, is_closing, room_of, IsNext, after_bytes, after_end, after_answer, after_write}
 
--- a message, and its answer by the catalogue of its moment
+-- a message, and what is sent for it by the service of its moment
 pub record Exchange : Type 0 where
-  pub catalogue : Catalogue
+  pub service : ServiceState
   pub message : List ℕ
-  pub response : Response
+  pub sent : Sent
 
--- the message is whole by itself, and the answer is its own
-pub record IsExchange (e : Exchange) : Type 0 where
+-- the message is whole by itself, and what is sent is its own, after n answers
+pub record IsExchange (n : ℕ) (e : Exchange) : Type 0 where
   pub whole : IsFirstMessage e.message e.message
-  pub answers : IsAnswer e.catalogue e.message e.response
+  pub answers : IsSent e.service n e.message e.sent
 
--- no message stands behind one whose answer closes
-abbrev pub AreExchanges : List Exchange → Type 0
-AreExchanges [] = ⊤
-AreExchanges (e ∷ es) = IsExchange e × (e.response.close ≡ true → es ≡ []) × AreExchanges es
+-- after n answers; no message stands after one whose answer closes
+abbrev pub AreExchanges : ℕ → List Exchange → Type 0
+AreExchanges n [] = ⊤
+AreExchanges n (e ∷ es) = IsExchange n e × (e.sent.response.close ≡ true → es ≡ []) × AreExchanges (suc n) es
 
 abbrev pub messages_of : List Exchange → List ℕ
 messages_of es = flat_map (λ e. e.message) es
 
 abbrev pub responses_of : List Exchange → List Response
-responses_of es = map (λ e. e.response) es
+responses_of es = map (λ e. e.sent.response) es
+
+-- the bytes that are sent
+abbrev pub texts_of : List Exchange → List ℕ
+texts_of es = flat_map (λ e. e.sent.text) es
 
 pub record Past : Type 0 where
   pub given : List ℕ
@@ -37,13 +42,13 @@ pub record Past : Type 0 where
   pub status : Status
 
 -- What came begins with the messages that were answered. What is written and what waits, together, are the answers to them, each
--- from the catalogue of its moment. What came behind the message with the last answer is lost, and nothing before.
+-- by the service of its moment. What came after the message with the last answer is lost, and nothing before.
 pub record IsAnsweredAlone (p : Past) : Type 0 where
   pub lost : List ℕ
-  pub lawful : AreExchanges p.exchanges
+  pub lawful : AreExchanges 0 p.exchanges
   pub few : length p.exchanges ≤ ANSWERS_LIMIT
   pub came : p.given ≡ messages_of p.exchanges ++ (p.status.held ++ lost)
-  pub went : p.written ++ p.status.waiting ≡ answers_text (responses_of p.exchanges)
+  pub went : p.written ++ p.status.waiting ≡ texts_of p.exchanges
   pub counted : p.status.answers ≡ length p.exchanges
   pub closed : p.status.is_closed ≡ list_any (λ r. r.close) (responses_of p.exchanges)
   pub dropped : p.status.dropped ≡ length lost
@@ -63,7 +68,7 @@ pub data Event : Type 0 where
 abbrev pub CanHappen : Event → Status → Type 0
 CanHappen (Came bytes) s = length bytes ≤ room_of s
 CanHappen Came_to_end s = ⊤
-CanHappen (Answered e) s = IsNext e.catalogue s e.message e.response
+CanHappen (Answered e) s = IsNext e.service s e.message e.sent
 CanHappen (Wrote n) s = n ≤ length s.waiting
 
 -- what each event makes of it; the status is what the call's contract says
@@ -80,7 +85,7 @@ happened (Answered e) p = record {
   given = p.given;
   written = p.written;
   exchanges = p.exchanges ++ e ∷ [];
-  status = after_answer e.message e.response p.status;
+  status = after_answer e.message e.sent p.status;
 }
 happened (Wrote n) p = record {
   given = p.given;
@@ -102,17 +107,19 @@ CanRun (e ∷ es) p = CanHappen e p.status × CanRun es (happened e p)
 abbrev pub RunsAreAnswered : Type 0
 RunsAreAnswered = (events : List Event) → CanRun events none_yet → IsAnsweredAlone (run events none_yet)
 
--- ---- one catalogue
+-- ---- one service
 
-abbrev pub AreFrom : Catalogue → List Exchange → Type 0
-AreFrom catalogue [] = ⊤
-AreFrom catalogue (e ∷ es) = (e.catalogue ≡ catalogue) × AreFrom catalogue es
+abbrev pub AreFrom : ServiceState → List Exchange → Type 0
+AreFrom service [] = ⊤
+AreFrom service (e ∷ es) = (e.service ≡ service) × AreFrom service es
 
--- the answers are the first ones to what came; where no further message can be answered, they are all of them
+-- The answers are the first ones to what came, and they are sent as they are. Where no further message can be answered, they are all of
+-- them.
 pub record IsServedAlone (catalogue : Catalogue) (p : Past) : Type 0 where
   pub first : AreFirstAnswers catalogue p.given (responses_of p.exchanges)
+  pub sent : texts_of p.exchanges ≡ answers_text (responses_of p.exchanges)
   pub all : (is_closing p.status ≡ true) ⊎ IsUnfinished p.status.held → IsAnswered catalogue p.given (responses_of p.exchanges)
 
--- where nothing is published meanwhile
+-- where nothing is published meanwhile, and nothing added
 abbrev pub RunsAreServed : Type 0
-RunsAreServed = (catalogue : Catalogue) (p : Past) → IsAnsweredAlone p → AreFrom catalogue p.exchanges → IsServedAlone catalogue p
+RunsAreServed = (catalogue : Catalogue) (p : Past) → IsAnsweredAlone p → AreFrom (plain catalogue) p.exchanges → IsServedAlone catalogue p

@@ -1,10 +1,14 @@
 -- What others know of a connection, and what each call makes of it (RFC 9112, sections 9.3 and 9.6).
-use Rattle.std.specs.Prelude.{◌≡◌, ◌≢◌, ◌⊎◌, ◌==◌, ◌||◌, ◌&&◌, ◌+◌, ◌-◌, ℕ, min, nat_le, Bool, true, false, if◌then◌else◌, List, [], ◌++◌, length, drop, Option, Some, None}
+use Rattle.std.specs.Prelude.{◌≡◌, ◌≢◌, ◌⊎◌, ◌==◌, ◌||◌, ◌&&◌, ◌+◌, ◌-◌, ℕ, min, nat_le, not, Bool, true, false, if◌then◌else◌, List, [], ◌++◌, length, drop, Option, Some, None}
+use Rattle.std.specs.List.{list_any}
+use Rattle.std.specs.Option.{option_map_or}
+use Rattle.std.specs.Str.{bytes_eq}
 use Rattle.http_fields.specs.declared.limits.TheConstants.{ANSWERS_LIMIT, MESSAGE_LIMIT}
 use Rattle.http_range.specs.Book.{Catalogue}
-use Rattle.http_range.specs.Reply.{status_of}
-use Rattle.http_range.specs.Response.{Response, IsAnswer, text_of}
+use Rattle.http_range.specs.declared.reply.Reply.{Reply}
+use Rattle.http_range.specs.declared.reply.Reply.TheVariants.{R200, R206, R304}
 use Rattle.http_range.specs.Stream.{IsFirstMessage, IsUnfinished}
+use Rattle.cog_server.specs.Additions.{IsSent, Sent, ServiceState, plain}
 use Rattle.cog_server.specs.declared.limits.TheConstants.{DROP_LIMIT}
 use Rattle.cog_server.specs.declared.served.Ended.{Ended}
 use Rattle.cog_server.specs.declared.served.Ended.TheVariants.{Closed, Limit, EndOfInput}
@@ -15,10 +19,11 @@ pub record Status : Type 0 where
   pub is_closed : Bool  -- an answer closes
   pub answers : ℕ  -- how many were given
   pub is_over : Bool  -- nothing more comes
-  pub dropped : ℕ  -- how many bytes behind the last message came to nothing
+  pub dropped : ℕ  -- how many bytes after the last message came to nothing
+  pub tag : Option (List ℕ)  -- of the file whose bytes are kept for the answer that isn't written
 
 abbrev pub start : Status
-start = record { held = []; waiting = []; is_closed = false; answers = 0; is_over = false; dropped = 0 }
+start = record { held = []; waiting = []; is_closed = false; answers = 0; is_over = false; dropped = 0; tag = None }
 
 -- no answer follows: one closes, or a hundred were given
 abbrev pub is_closing : Status → Bool
@@ -40,46 +45,61 @@ after_bytes bytes s =
 abbrev pub after_end : Status → Status
 after_end s = record s { is_over = true }
 
--- n bytes of what waits are written
+-- n bytes of what waits are written; after the last one no file is kept
 abbrev pub after_write : ℕ → Status → Status
-after_write n s = record s { waiting = drop n s.waiting }
+after_write n s = record s { waiting = drop n s.waiting; tag = if length (drop n s.waiting) == 0 then None else s.tag }
 
 -- ---- answers
 
 -- the message is answered next: none that closes came before, the one before is written, and it is whole
-pub record IsNext (catalogue : Catalogue) (s : Status) (message : List ℕ) (response : Response) : Type 0 where
+pub record IsNext (service : ServiceState) (s : Status) (message : List ℕ) (sent : Sent) : Type 0 where
   pub goes_on : is_closing s ≡ false
   pub written : s.waiting ≡ []
   pub first : IsFirstMessage s.held message
-  pub answers : IsAnswer catalogue message response
+  pub answers : IsSent service s.answers message sent
 
-abbrev pub after_message : List ℕ → Response → Status → Status
-after_message message response s = record {
+-- the tag of the file that the answer is of
+abbrev pub tag_of : Reply → Option (List ℕ)
+tag_of (R200 tag length) = Some tag
+tag_of (R206 tag first last length) = Some tag
+tag_of (R304 tag) = Some tag
+tag_of reply = None
+
+abbrev pub after_message : List ℕ → Sent → Status → Status
+after_message message sent s = record {
   held = drop (length message) s.held;
-  waiting = text_of response;
-  is_closed = response.close;
+  waiting = sent.text;
+  is_closed = sent.response.close;
   answers = s.answers + 1;
   is_over = s.is_over;
   dropped = s.dropped;
+  tag = tag_of sent.response.reply;
 }
 
--- behind the last message nothing is kept
+-- after the last message nothing is kept
 abbrev pub let_go : Status → Status
 let_go s = if is_closing s then record s { held = []; dropped = length s.held } else s
 
-abbrev pub after_answer : List ℕ → Response → Status → Status
-after_answer message response s = let_go (after_message message response s)
+abbrev pub after_answer : List ℕ → Sent → Status → Status
+after_answer message sent s = let_go (after_message message sent s)
 
 -- no message is answered now: no answer follows, one isn't written, or no message is whole
 abbrev pub Rests : Status → Type 0
 Rests s = (is_closing s ≡ true) ⊎ ((s.waiting ≢ []) ⊎ IsUnfinished s.held)
 
 -- the next message is answered, by an answer of this status, or none is
+abbrev pub GoesOnBy : ServiceState → Status → Status → Option ℕ → Type 0
+GoesOnBy service old new (Some status) =
+    (message : List ℕ) × (sent : Sent) × IsNext service old message sent × (new ≡ after_answer message sent old) × (status ≡ sent.status)
+GoesOnBy service old new None = (new ≡ old) × Rests old
+
+-- where nothing is added
 abbrev pub GoesOn : Catalogue → Status → Status → Option ℕ → Type 0
-GoesOn catalogue old new (Some status) =
-    (message : List ℕ) × (response : Response) × IsNext catalogue old message response × (new ≡ after_answer message response old)
-    × (status ≡ status_of response.reply)
-GoesOn catalogue old new None = (new ≡ old) × Rests old
+GoesOn catalogue old new status = GoesOnBy (plain catalogue) old new status
+
+-- the bytes that are kept are of a file that is published no more
+abbrev pub is_outdated : Catalogue → Status → Bool
+is_outdated catalogue s = option_map_or (λ tag. not (list_any (λ p. bytes_eq p.tag tag) catalogue)) s.tag false
 
 -- ---- the end
 

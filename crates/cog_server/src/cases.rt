@@ -4,6 +4,7 @@ ghost use Rattle.std.specs.List.{starts_with};
 ghost use Rattle.std.specs.Str.{bytes_eq};
 ghost use Rattle.http_range.specs.Response.{asks_close, announces_body, fails_precondition, is_unmodified, lets_range, range_to_serve, part_to_serve};
 ghost use Rattle.http_fields.specs.Fields.{values_of};
+ghost use Rattle.cog_server.specs.Additions.{is_preflight};
 ghost use Rattle.cog_server.specs.Place.{IsInside};
 
 use http_range::{Request, Resolved, Tag, read_range, resolve};
@@ -44,6 +45,13 @@ pub fn is_head(request: &Request<'_>) -> bool
     request.method() == b"HEAD".as_slice()
 }
 
+/// Whether the request asks which requests a page may send (Fetch standard, section 3.3.2).
+pub fn is_preflight(request: &Request<'_>) -> bool
+    ensures { result ≡ is_preflight request.now }
+{
+    request.method() == b"OPTIONS".as_slice() && request.has(b"Access-Control-Request-Method")
+}
+
 /// Whether the method is neither GET nor HEAD, which is answered by 405 (sections 9.1 and 15.5.6).
 pub fn has_other_method(request: &Request<'_>) -> bool
     ensures { result ≡ not (bytes_eq request.now.method (codes "GET")) && not (bytes_eq request.now.method (codes "HEAD")) }
@@ -51,7 +59,7 @@ pub fn has_other_method(request: &Request<'_>) -> bool
     request.method() != b"GET".as_slice() && !is_head(request)
 }
 
-/// Whether the target isn't in origin form, a path behind `/`, which is answered by 400 (section 7.1; RFC 9112, section 3.2.1).
+/// Whether the target isn't in origin form, a path after `/`, which is answered by 400 (section 7.1; RFC 9112, section 3.2.1).
 pub fn lacks_origin_form(request: &Request<'_>) -> bool
     ensures { result ≡ not (starts_with nat_eq request.now.target (codes "/")) }
 {

@@ -1,13 +1,13 @@
 //! The files of a server.
 ghost use Rattle.std.specs.Prelude.{◌≡◌, ◌<◌, ◌&&◌, is_none, nat_le, IfSome, IfErr, OnOk, OnErr, length, map, option_map, option_copied};
-ghost use Rattle.std.specs.List.{find, position};
+ghost use Rattle.std.specs.List.{find, list_any, position};
 ghost use Rattle.std.specs.Str.{bytes_eq};
 ghost use Rattle.http_range.specs.Book.{published};
 ghost use Rattle.cog_server.specs.Catalogue.{publication, put_at};
 
 use crate::error::PublishError;
 use crate::published::Published;
-use http_range::NAMES_LIMIT;
+use http_range::{NAMES_LIMIT, Tag};
 
 /// Where the file of this name stands.
 pub fn place_of(files: &[Published], name: &[u8]) -> Option<usize>
@@ -27,6 +27,15 @@ pub fn find_file<'f>(files: &'f [Published], name: &[u8]) -> Option<&'f Publishe
     ensures { option_map publication (option_copied result) ≡ published name.now (map publication files.now) }
 {
     first_named(files, name)
+}
+
+/// Returns whether a file is published under this tag.
+pub fn has_tag(files: &[Published], tag: &Tag) -> bool
+    ensures { result ≡ list_any (λ file. bytes_eq file.tag tag.now) files.now }
+{
+    files
+        .iter()
+        .any(|file| file.tag.as_bytes() == tag.as_bytes())
 }
 
 /// Stores a file at its place, or at the end.

@@ -2,11 +2,13 @@
 ghost use Rattle.std.specs.Prelude.{◌≡◌, ◌≤◌, ◌<◌, ◌==◌, ◌||◌, ◌++◌, true, IfOk, IsOk, OnOk, OnErr, length};
 ghost use Rattle.http_fields.specs.declared.limits.TheConstants.{ANSWERS_LIMIT, MESSAGE_LIMIT};
 
+use crate::catalogue::has_tag;
 use crate::limits::DROP_LIMIT;
 use crate::outgoing::Outgoing;
 use crate::pending_input::PendingInput;
 use crate::served::Ended;
 use crate::server::Server;
+use crate::service::Service;
 use http_range::{ANSWERS_LIMIT, MESSAGE_LIMIT, Memory};
 use std::alloc::Global;
 use std::marker::Model;
@@ -18,8 +20,8 @@ fn closes(closed: bool, answers: usize) -> bool
     closed || answers == ANSWERS_LIMIT
 }
 
-/// The server's end of one connection. One answer is on its way at a time, and what comes behind its message waits to be answered.
-/// Behind the message with the last answer, what comes is dropped.
+/// The server's end of one connection. One answer is on its way at a time, and what comes after its message waits to be answered.
+/// After the message with the last answer, what comes is dropped.
 pub struct Connection {
     held: PendingInput,
     outgoing: Outgoing,
@@ -44,11 +46,11 @@ impl Drop for Connection {
 }
 
 impl Model for Connection {
-    ghost use Rattle.std.specs.Prelude.{◌≡◌, ◌≤◌, [], None};
+    ghost use Rattle.std.specs.Prelude.{◌≡◌, ◌≤◌, []};
     ghost use Rattle.http_fields.specs.declared.limits.TheConstants.{ANSWERS_LIMIT};
     ghost use Rattle.cog_server.specs.declared.limits.TheConstants.{DROP_LIMIT};
     ghost use Rattle.cog_server.specs.Status.{Status};
-    ghost use Rattle.cog_server.specs.Outgoing.{waiting_of};
+    ghost use Rattle.cog_server.specs.Outgoing.{HoldsNone, waiting_of};
 
     ghost Value = { Status };
 
@@ -59,15 +61,17 @@ impl Model for Connection {
       answers = c.answers;
       is_over = c.over;
       dropped = c.dropped;
+      tag = c.outgoing.tag;
     } };
 
     // Where no answer waits, no file's bytes are held.
     ghost invariant = { λ c. (c.answers ≤ ANSWERS_LIMIT) × (c.dropped ≤ DROP_LIMIT)
-        × (waiting_of c.outgoing ≡ [] → c.outgoing.file ≡ None) };
+        × (waiting_of c.outgoing ≡ [] → HoldsNone c.outgoing) };
 }
 
 impl Connection {
-    ghost use Rattle.cog_server.specs.Status.{start, room_of, GoesOn, Rests, EndsBy, is_closing, after_bytes, after_end, after_write, is_drained, is_draining, is_idle};
+    ghost use Rattle.cog_server.specs.Service.{service_of};
+    ghost use Rattle.cog_server.specs.Status.{start, room_of, GoesOn, GoesOnBy, Rests, EndsBy, is_closing, after_bytes, after_end, after_write, is_drained, is_draining, is_idle, is_outdated};
 
     /// A connection on which nothing came.
     ///
@@ -104,7 +108,7 @@ impl Connection {
         }
     }
 
-    /// Takes bytes that came. Behind the last message they need no memory.
+    /// Takes bytes that came. After the last message they need no memory.
     pub fn came(&mut self, bytes: &[u8]) -> Result<(), Memory>
         requires { length bytes.now ≤ room_of self.old }
         ensures ok { OnOk result (self.new ≡ after_bytes bytes.now self.old) }
@@ -126,11 +130,20 @@ impl Connection {
         self.over = true;
     }
 
-    /// Answers the next message from the server as it stands now, and returns the status of the answer. Returns `None` where no
-    /// message is answered: none is whole, the answer before it isn't written, or no answer follows. An error changes nothing, and
+    /// Answers the next message from the server as it stands now, and returns the status of the answer. Returns `None` where no message is
+    /// answered: none is whole, the answer before it isn't written, or no answer follows. An error changes nothing, and
     /// comes only where a message is to be answered.
     pub fn go_on(&mut self, server: &Server) -> Result<Option<u16>, Memory>
         ensures ok { IfOk result (GoesOn server.now.catalogue self.old self.new) }
+        ensures err { OnErr result (self.new ≡ self.old) }
+        ensures rests { Rests self.old → IsOk result }
+    {
+        self.go_on_by(&Service::plain(server))
+    }
+
+    /// Answers the next message as `go_on` does, by a service, which may add to the answer.
+    pub fn go_on_by(&mut self, service: &Service<'_>) -> Result<Option<u16>, Memory>
+        ensures ok { IfOk result (GoesOnBy (service_of service.now) self.old self.new) }
         ensures err { OnErr result (self.new ≡ self.old) }
         ensures rests { Rests self.old → IsOk result }
     {
@@ -140,7 +153,9 @@ impl Connection {
         let Some(n) = self.held.whole() else {
             return Ok(None);
         };
-        let status = self.outgoing.answer(server.files(), &self.held.bytes[..n])?;
+        let status = self
+            .outgoing
+            .answer(service, self.answers, &self.held.bytes[..n])?;
         self.answers += 1;
         self.closed = self.outgoing.close;
         self.held.skip(n);
@@ -149,6 +164,16 @@ impl Connection {
             self.held.skip(self.dropped);
         }
         Ok(Some(status))
+    }
+
+    /// Returns whether bytes of a file are kept for the answer that isn't written, and `server` publishes that file no more.
+    pub fn is_outdated(&self, server: &Server) -> bool
+        ensures { result ≡ is_outdated server.now.catalogue self.now }
+    {
+        match &self.outgoing.tag {
+            Some(tag) => !has_tag(server.files(), tag),
+            None => false,
+        }
     }
 
     /// What waits to be written, of a head and of a body. The body's bytes stay, whatever is published meanwhile.
@@ -206,7 +231,7 @@ impl Connection {
         closes(self.closed, self.answers) && !self.outgoing.is_waiting()
     }
 
-    /// Whether nothing more may come: the input is at its end, or 65,536 bytes behind the last message are dropped.
+    /// Whether nothing more may come: the input is at its end, or 65,536 bytes after the last message are dropped.
     pub fn is_drained(&self) -> bool
         ensures { result ≡ is_drained self.now }
     {

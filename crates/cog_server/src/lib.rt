@@ -3,6 +3,7 @@
 //! `Server::new` and `file` take no memory. Lengths and positions are in bytes.
 #![tactic(auto)]
 
+mod additions;
 mod cases;
 mod catalogue;
 mod connection;
@@ -19,8 +20,10 @@ mod scripted;
 mod serve;
 mod served;
 mod server;
+mod service;
 mod stream;
 
+pub use additions::Additions;
 pub use connection::Connection;
 pub use error::PublishError;
 pub use inlet::{Failed, Inlet, Outlet};
@@ -29,4 +32,5 @@ pub use limits::DROP_LIMIT;
 pub use scripted::{AfterBytes, AfterPieces, ScriptedInlet, ScriptedOutlet};
 pub use served::{Ended, ServeError, Served};
 pub use server::{Answer, Server};
+pub use service::Service;
 pub use stream::Stream;

@@ -1,16 +1,23 @@
 //! An answer on its way out.
-ghost use Rattle.std.specs.Prelude.{◌≡◌, ◌≤◌, ◌++◌, ◌==◌, [], not, None, IfOk, OnErr, length, drop, map, slice_range};
-ghost use Rattle.cog_server.specs.Catalogue.{publication};
-ghost use Rattle.cog_server.specs.Outgoing.{IsOutgoing, body_of, waiting_of};
+ghost use Rattle.std.specs.Prelude.{◌≡◌, ◌≤◌, ◌<◌, ◌++◌, ◌==◌, [], not, if◌then◌else◌, None, IfOk, OnOk, OnErr, codes, length, drop, option_copied, slice_range};
+ghost use Rattle.http_fields.specs.declared.limits.TheConstants.{ANSWERS_LIMIT};
+ghost use Rattle.http_fields.specs.Text.{closing, head_with};
+ghost use Rattle.http_range.specs.Reply.{fields_of, status_line, status_of};
+ghost use Rattle.cog_server.specs.Additions.{origin_fields, preflight_fields};
+ghost use Rattle.cog_server.specs.Outgoing.{HoldsNone, IsEmpty, IsOutgoing, body_of, waiting_of};
+ghost use Rattle.cog_server.specs.Service.{service_of};
+ghost use Rattle.cog_server.specs.Status.{tag_of};
 
+use crate::additions::{Additions, answers_preflight, closes_by, push_head, push_preflight};
+use crate::placed::Prepared;
 use crate::prepared::{prepare, status};
-use crate::published::Published;
-use http_range::{Memory, append_head};
+use crate::service::Service;
+use http_range::{Memory, Tag};
 use std::alloc::Global;
 use std::rc::RcSlice;
 
 /// As many bytes as the longest head of an answer has, and some more.
-const HEAD_ROOM: usize = 320;
+const HEAD_ROOM: usize = 800;
 
 /// The head of an answer, the part of the file that is its body, and how many bytes of both are written. The file's bytes stay
 /// while they are on their way; one room serves the heads of all answers.
@@ -22,13 +29,15 @@ pub struct Outgoing {
     pub end: usize,
     pub sent: usize,
     pub close: bool,
+    /// The tag of the file.
+    pub tag: Option<Tag>,
 }
 
 impl Outgoing {
     /// Nothing.
     pub fn new(alloc: Global) -> Self
         ensures waiting { waiting_of result ≡ [] }
-        ensures file { result.file ≡ None }
+        ensures none { HoldsNone result }
     {
         Outgoing {
             head: Vec::new(alloc),
@@ -37,48 +46,98 @@ impl Outgoing {
             end: 0,
             sent: 0,
             close: false,
+            tag: None,
         }
     }
 
     /// Drops what is there but for the room of the head.
     fn clear(&mut self)
-        ensures file { self.new.file ≡ None }
+        ensures empty { IsEmpty self.new }
         ensures waiting { waiting_of self.new ≡ [] }
-        ensures head { self.new.head.items ≡ [] }
-        ensures sent { self.new.sent ≡ 0 }
     {
         self.head.clear();
         self.file = None;
         self.first = 0;
         self.end = 0;
         self.sent = 0;
+        self.tag = None;
     }
 
-    /// Puts the answer to the head at the front of a message in the place of what is there, and returns its status. Its body stays
-    /// where it is, its head is put together where the one before was. After an error nothing waits. Where nothing waits, no file's
-    /// bytes are held.
-    pub fn answer(&mut self, files: &[Published], message: &[u8]) -> Result<u16, Memory>
-        ensures ok { IfOk result (IsOutgoing (map publication files.now) message.now self.new) }
-        ensures err { OnErr result (waiting_of self.new ≡ []) }
-        ensures freed { waiting_of self.new ≡ [] → self.new.file ≡ None }
+    /// Puts the head of the answer to a preflight in the place of nothing, and returns its status. After an error the head may have a part.
+    fn put_preflight(&mut self, additions: Additions<'_>, close: bool) -> Result<u16, Memory>
+        requires { IsEmpty self.old }
+        ensures status { IfOk result (λ status. status ≡ 204) }
+        ensures text { OnOk result (waiting_of self.new ≡ head_with (codes "HTTP/1.1 204 No Content")
+            (preflight_fields ++ (origin_fields (option_copied additions.entry.origin) ++ closing close))) }
+        ensures close { OnOk result (self.new.close ≡ close) }
+        ensures tag { self.new.tag ≡ None }
+        ensures file { self.new.file ≡ None }
     {
-        self.clear();
-        self.head.reserve(HEAD_ROOM)?;
-        let prepared = prepare(files, message);
-        let status = status(&prepared.reply);
+        push_preflight(&mut self.head, additions, close)?;
+        self.close = close;
+        Ok(204)
+    }
+
+    /// Puts a prepared answer in the place of nothing, and returns its status. Its body stays where it is. After an error the head may have
+    /// a part.
+    fn put(
+        &mut self,
+        prepared: &Prepared<'_>,
+        additions: Additions<'_>,
+        close: bool,
+    ) -> Result<u16, Memory>
+        requires { IsEmpty self.old }
+        ensures status { IfOk result (λ code. code ≡ status_of prepared.now.reply) }
+        ensures text { OnOk result (waiting_of self.new ≡ head_with (status_line prepared.now.reply)
+            (fields_of prepared.now.reply ++ (origin_fields (option_copied additions.entry.origin) ++ closing close))
+            ++ prepared.now.body.now) }
+        ensures close { OnOk result (self.new.close ≡ close) }
+        ensures tag { OnOk result (self.new.tag ≡ tag_of prepared.now.reply) }
+    {
         let file = match prepared.file {
             Some(file) => Some(file.clone()?),
             None => None,
         };
-        if append_head(&mut self.head, &prepared.reply, prepared.close).is_err() {
-            self.clear();
-            return Err(Memory);
-        }
+        push_head(&mut self.head, &prepared.reply, additions, close)?;
         self.file = file;
         self.first = prepared.first;
         self.end = prepared.end;
-        self.close = prepared.close;
-        Ok(status)
+        self.close = close;
+        self.tag = match prepared.tag {
+            Some(tag) => Some(tag.copy()),
+            None => None,
+        };
+        Ok(status(&prepared.reply))
+    }
+
+    /// Puts what a service sends for the head at the front of a message, after `count` answers, in the place of what is there. Returns its
+    /// status. Its body stays where it is, its head is put together where the one before was. After an error nothing waits. Where nothing
+    /// waits, no file's bytes are held.
+    pub fn answer(
+        &mut self,
+        service: &Service<'_>,
+        count: usize,
+        message: &[u8],
+    ) -> Result<u16, Memory>
+        requires { count < ANSWERS_LIMIT }
+        ensures ok { IfOk result (IsOutgoing (service_of service.now) count message.now self.new) }
+        ensures err { OnErr result (waiting_of self.new ≡ []) }
+        ensures freed { waiting_of self.new ≡ [] → HoldsNone self.new }
+    {
+        self.clear();
+        self.head.reserve(HEAD_ROOM)?;
+        let additions = service.additions;
+        let prepared = prepare(service.server.files(), message);
+        let close = closes_by(additions, count, prepared.close);
+        let status = if answers_preflight(additions, &prepared) {
+            self.put_preflight(additions, close)
+        } else {
+            self.put(&prepared, additions, close)
+        };
+        if status.is_err() {
+            self.clear();
+        }
+        status
     }
 
     fn body(&self) -> &[u8]
@@ -108,11 +167,12 @@ impl Outgoing {
         !head.is_empty() || !body.is_empty()
     }
 
-    /// Notes that some bytes are written. Behind the last one the file's bytes are held no longer.
+    /// Notes that some bytes are written. After the last one the file's bytes are held no longer.
     pub fn wrote(&mut self, n: usize)
         requires { n ≤ length (waiting_of self.old) }
         ensures waiting { waiting_of self.new ≡ drop n (waiting_of self.old) }
-        ensures freed { waiting_of self.new ≡ [] → self.new.file ≡ None }
+        ensures tag { self.new.tag ≡ (if length (drop n (waiting_of self.old)) == 0 then None else self.old.tag) }
+        ensures freed { waiting_of self.new ≡ [] → HoldsNone self.new }
     {
         self.sent += n;
         if !self.is_waiting() {

@@ -1,12 +1,13 @@
 //! An answer and its place in a file.
 ghost use Rattle.std.specs.Prelude.{◌≡◌, [], option_copied, option_map, slice_range, unwrap_or};
+ghost use Rattle.cog_server.specs.Status.{tag_of};
 ghost use Rattle.std.specs.Rc.{rc_slice_items};
 
-use http_range::Reply;
+use http_range::{Reply, Tag};
 use std::rc::RcSlice;
 
 /// An answer: its reply, whether the connection ends with it, the name of the file whose tag it carries, and its body
-/// where it stands in the file, from `first` to `end`.
+/// where it stands in the file, from `first` to `end`. Also whether the request is a preflight.
 #[derive(Drop)]
 pub struct Prepared<'f> {
     pub reply: Reply,
@@ -16,5 +17,8 @@ pub struct Prepared<'f> {
     pub file: Option<&'f RcSlice<u8>>,
     pub first: usize,
     pub end: usize,
+    pub tag: Option<&'f Tag>,
+    pub is_preflight: bool,
+    ghost tagged: { option_copied tag ≡ tag_of reply },
     ghost placed: { body.now ≡ slice_range (unwrap_or (option_map rc_slice_items (option_copied file)) []) first end },
 }

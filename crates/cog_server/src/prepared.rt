@@ -1,15 +1,16 @@
 //! The answer to a message, before its text is written.
-ghost use Rattle.std.specs.Prelude.{◌≡◌, ◌≤◌, Some, length, map, slice_range};
+ghost use Rattle.std.specs.Prelude.{◌≡◌, ◌≤◌, None, Some, false, length, map, slice_range};
 ghost use Rattle.std.specs.Rc.{rc_slice_items};
 ghost use Rattle.http_range.specs.Reply.{status_of};
-ghost use Rattle.http_range.specs.Response.{IsAnswer, answer_by, refused, serve_file, serve_part};
+ghost use Rattle.http_range.specs.Response.{answer_by, refused, serve_file, serve_part};
 ghost use Rattle.cog_server.specs.Catalogue.{publication};
 ghost use Rattle.cog_server.specs.Place.{IsInside};
-ghost use Rattle.cog_server.specs.Prepared.{response_of};
+ghost use Rattle.cog_server.specs.Prepared.{IsPrepared, response_of};
+ghost use Rattle.cog_server.specs.Status.{tag_of};
 
 use crate::cases::{
     announces_body, asks_close, fails_precondition, has_other_method, has_other_version, is_head,
-    is_unmodified, lacks_host, lacks_origin_form, part_to_serve,
+    is_preflight, is_unmodified, lacks_host, lacks_origin_form, part_to_serve,
 };
 use crate::catalogue::find_file;
 use crate::placed::Prepared;
@@ -35,17 +36,23 @@ pub fn status(reply: &Reply) -> u16
 
 /// The answer to the head at the front of a message.
 pub fn prepare<'f>(files: &'f [Published], message: &[u8]) -> Prepared<'f>
-    ensures { IsAnswer (map publication files.now) message.now (response_of result) }
+    ensures { IsPrepared (map publication files.now) message.now result }
 {
     match read_request(message) {
         None => refuse(Reply::R400, true),
-        Some(request) => answer_request(files, &request),
+        Some(request) => {
+            let mut prepared = answer_request(files, &request);
+            prepared.is_preflight = is_preflight(&request);
+            prepared
+        }
     }
 }
 
 /// An answer without a body and without a tag.
 fn refuse<'f>(reply: Reply, close: bool) -> Prepared<'f>
-    ensures { response_of result ≡ refused reply close }
+    requires { tag_of reply ≡ None }
+    ensures answer { response_of result ≡ refused reply close }
+    ensures preflight { result.is_preflight ≡ false }
 {
     Prepared {
         reply,
@@ -55,6 +62,8 @@ fn refuse<'f>(reply: Reply, close: bool) -> Prepared<'f>
         file: None,
         first: 0,
         end: 0,
+        tag: None,
+        is_preflight: false,
     }
 }
 
@@ -104,6 +113,7 @@ fn serve<'f>(
 ) -> Prepared<'f>
     requires some { first ≤ end }
     requires inside { end ≤ length (rc_slice_items file.now.file) }
+    requires tag { tag_of reply ≡ Some file.now.tag }
     ensures { response_of result ≡ record {
       reply = reply;
       close = close;
@@ -119,6 +129,8 @@ fn serve<'f>(
         file: Some(&file.file),
         first,
         end,
+        tag: Some(&file.tag),
+        is_preflight: false,
     }
 }
 

@@ -88,6 +88,13 @@ impl Server {
         self.epoch
     }
 
+    /// Returns how many publications there were.
+    pub fn count(&self) -> u32
+        ensures { result ≡ self.now.count }
+    {
+        self.count
+    }
+
     /// The files, each by its name.
     pub(crate) fn files(&self) -> &[Published]
         ensures { map publication result.now ≡ self.now.catalogue }

@@ -8,8 +8,8 @@ use Rattle.std.proofs.lemmas.Option.{none-some}
 use Rattle.std.proofs.lemmas.List.{take_all}
 use Rattle.lru.proofs.Splits.{Contains-cons, Contains-nil}
 use Rattle.lru.specs.LruCache.{LruCache, put_entries}
-use Rattle.http_range.specs.Book.{Catalogue}
-use Rattle.cog_server.specs.Status.{GoesOn}
+use Rattle.cog_server.specs.Additions.{ServiceState}
+use Rattle.cog_server.specs.Status.{GoesOnBy}
 use Rattle.server_connections.specs.declared.timed.Timed.{Timed}
 use Rattle.server_connections.specs.Table.{Table, timed_at, OthersStay, Changes, Becomes, GoesOnAt, AreFalling}
 
@@ -63,17 +63,17 @@ is_there o p found = sym (ap is_some found)
 pub none_there : (o : Option Timed) → o ≡ None → false ≡ is_some o
 none_there o none = sym (ap is_some none)
 
-pub goes_nowhere : (catalogue : Catalogue) (k now : ℕ) (o : Option Timed) (table : Table) → o ≡ None → GoesOnAt catalogue k now o table table None
-goes_nowhere catalogue k now o table none = subst (λ (x : Option Timed). GoesOnAt catalogue k now x table table None) (sym none) (refl, refl)
+pub goes_nowhere : (service : ServiceState) (k now : ℕ) (o : Option Timed) (table : Table) → o ≡ None → GoesOnAt service k now o table table None
+goes_nowhere service k now o table none = subst (λ (x : Option Timed). GoesOnAt service k now x table table None) (sym none) (refl, refl)
 
-pub goes_on_at : (catalogue : Catalogue) (k now : ℕ) (table : Table) (p w : Timed) (status : Option ℕ) → timed_at k table ≡ Some p
-    → GoesOn catalogue p.connection w.connection status → w.progress ≡ (if is_some status then now else p.progress) → w.tried ≡ p.tried
-    → GoesOnAt catalogue k now (timed_at k table) table (set_value (nat_eq k) table w) status
-goes_on_at catalogue k now table p w status found goes progress tried =
+pub goes_on_at : (service : ServiceState) (k now : ℕ) (table : Table) (p w : Timed) (status : Option ℕ) → timed_at k table ≡ Some p
+    → GoesOnBy service p.connection w.connection status → w.progress ≡ (if is_some status then now else p.progress) → w.tried ≡ p.tried
+    → GoesOnAt service k now (timed_at k table) table (set_value (nat_eq k) table w) status
+goes_on_at service k now table p w status found goes progress tried =
     let same : w ≡ record { connection = w.connection; progress = if is_some status then now else p.progress; tried = p.tried } =
     λ i. record { connection = w.connection; progress = progress i; tried = tried i } in
     let b = becomes k table p w found in
-    subst (λ (x : Option Timed). GoesOnAt catalogue k now x table (set_value (nat_eq k) table w) status) (sym found)
+    subst (λ (x : Option Timed). GoesOnAt service k now x table (set_value (nat_eq k) table w) status) (sym found)
     (w.connection, goes, record { here = b.here ∙ ap Some same; others = b.others })
 
 -- ---- numbers

@@ -1,13 +1,15 @@
 -- Looking for the connection that has waited longest.
-use Rattle.std.proofs.Common.{◌≡◌, ℕ, ◌≤◌, ◌<◌, Bool, true, false, [], ◌∷◌, ◌++◌, Option, Some, None, refl, sym, ap, ◌∙◌, subst, arith, append_assoc, slice_index_or}
+use Rattle.std.proofs.Common.{◌≡◌, ℕ, ◌≤◌, ◌<◌, Bool, true, false, [], ◌∷◌, ◌++◌, Option, Some, None, refl, sym, ap, ◌∙◌, subst, arith, append_assoc, slice_index_or, Bor}
 use Rattle.std.specs.Prelude.{All, IsSomeAnd, nat_lt}
 use Rattle.std.proofs.lemmas.Bool.Decides.{nat_tests}
 use Rattle.std.proofs.lemmas.List.Elements.{All-nil, All-cons, All-append, Contains-append_left, Contains-append_right}
 use Rattle.lru.proofs.Splits.{Contains-head}
 use Rattle.server_connections.specs.declared.timed.Timed.{Timed}
 use Rattle.server_connections.specs.declared.candidate.Candidate.{Candidate}
+use Rattle.cog_server.specs.Server.{ServerState}
+use Rattle.server_connections.specs.declared.candidate.Candidate.TheVariants.{Outdated}
 use Rattle.server_connections.specs.Table.{AreFalling, Table, timed_at}
-use Rattle.server_connections.specs.Yielding.{Finds, IsLongest, is_longer, passes, since}
+use Rattle.server_connections.specs.Yielding.{Finds, IsFirstOutdated, IsLongest, is_longer, passes, since}
 use Rattle.server_connections.proofs.TableLemmas.{found_there}
 
 apart : {A : Type 0} (b : Bool) → b ≡ true → b ≡ false → A
@@ -77,3 +79,10 @@ pub longest_there : (P : Timed → Type 0) (candidate : Candidate) (table : Tabl
     → AreFalling n table → IsLongest candidate table k moment → IsSomeAnd (timed_at k table) P
 longest_there P candidate table k moment n passing falling is =
     subst (λ (o : Option Timed). IsSomeAnd o P) (sym (found_there k n is.timed table falling is.there)) (passing is.timed is.passing)
+
+-- of those that keep old bytes
+pub finds_outdated : (server : Bor ServerState) (table : Table) (found : Option (ℕ × ℕ)) → Finds (Outdated server) table found
+    → IsFirstOutdated server.now.catalogue table found
+finds_outdated server table None h = h
+finds_outdated server table (Some found) h =
+    record { timed = h.timed; there = h.there; passing = h.passing; at = h.at; longest = h.longest }

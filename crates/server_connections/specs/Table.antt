@@ -2,8 +2,8 @@
 use Rattle.std.specs.Prelude.{◌≡◌, ◌≢◌, ◌<◌, ◌==◌, ℕ, if◌then◌else◌, nat_eq, List, [], ◌∷◌, Option, Some, None, is_some, option_map, ⊤}
 use Rattle.std.specs.Coded.{le_prop}
 use Rattle.std.specs.Map.{lookup}
-use Rattle.http_range.specs.Book.{Catalogue}
-use Rattle.cog_server.specs.Status.{Status, GoesOn, after_write}
+use Rattle.cog_server.specs.Additions.{ServiceState}
+use Rattle.cog_server.specs.Status.{Status, GoesOnBy, after_write}
 use Rattle.server_connections.specs.declared.timed.Timed.{Timed}
 
 abbrev pub Table : Type 0
@@ -32,10 +32,10 @@ timed_after_write n now p =
     record { connection = after_write n p.connection; progress = if n == 0 then p.progress else now; tried = now }
 
 -- connection k goes on, if there is one; with a status its next message is answered
-abbrev pub GoesOnAt : Catalogue → ℕ → ℕ → Option Timed → Table → Table → Option ℕ → Type 0
-GoesOnAt catalogue k now None old new status = (status ≡ None) × (new ≡ old)
-GoesOnAt catalogue k now (Some p) old new status =
-    (s : Status) × GoesOn catalogue p.connection s status
+abbrev pub GoesOnAt : ServiceState → ℕ → ℕ → Option Timed → Table → Table → Option ℕ → Type 0
+GoesOnAt service k now None old new status = (status ≡ None) × (new ≡ old)
+GoesOnAt service k now (Some p) old new status =
+    (s : Status) × GoesOnBy service p.connection s status
     × Becomes k (Some (record { connection = s; progress = if is_some status then now else p.progress; tried = p.tried })) old new
 
 -- the connections stand as they came, the newest first: their numbers fall, from below this one on

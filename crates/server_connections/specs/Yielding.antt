@@ -1,9 +1,10 @@
 -- Which connection a newcomer to a full table takes the place of.
 use Rattle.std.specs.Prelude.{◌≡◌, ◌⊎◌, ◌≤◌, ◌+◌, ◌-◌, ◌/◌, ◌^◌, ◌==◌, ◌&&◌, ◌||◌, ℕ, nat_le, nat_lt, not, length, Bool, true, false, Option, Some, None, Contains, All}
-use Rattle.cog_server.specs.Status.{is_draining, is_idle}
+use Rattle.http_range.specs.Book.{Catalogue}
+use Rattle.cog_server.specs.Status.{is_draining, is_idle, is_outdated}
 use Rattle.server_connections.specs.declared.timed.Timed.{Timed}
 use Rattle.server_connections.specs.declared.candidate.Candidate.{Candidate}
-use Rattle.server_connections.specs.declared.candidate.Candidate.TheVariants.{Draining, Idle, Stuck, Untried, Waiting, Any}
+use Rattle.server_connections.specs.declared.candidate.Candidate.TheVariants.{Draining, Idle, Stuck, Untried, Waiting, Any, Outdated, Overdue}
 use Rattle.server_connections.specs.Table.{Table}
 
 -- bytes wait on it
@@ -24,6 +25,10 @@ abbrev pub is_untried : ℕ → ℕ → Timed → Bool
 is_untried now patience p =
     (nat_le (half_of patience) (now - p.tried) || (nat_le patience (now - p.progress) && not (p.tried == now))) && has_waiting p
 
+-- it is stuck, and keeps bytes of a file that is published no more
+abbrev pub is_overdue : Catalogue → ℕ → ℕ → Timed → Bool
+is_overdue catalogue now patience p = is_stuck now patience p && is_outdated catalogue p.connection
+
 -- it is such a connection: it drains, is idle, is stuck, has a socket to be tried, or has bytes that wait
 abbrev pub passes : Candidate → Timed → Bool
 passes Draining p = is_draining p.connection
@@ -32,6 +37,8 @@ passes (Stuck now patience) p = is_stuck now patience p
 passes (Untried now patience) p = is_untried now patience p
 passes Waiting p = has_waiting p
 passes Any p = true
+passes (Outdated server) p = is_outdated server.now.catalogue p.connection
+passes (Overdue server now patience) p = is_overdue server.now.catalogue now patience p
 
 -- the moment from which its wait counts: of the last try where sockets are tried, and else of the last progress
 abbrev pub since : Candidate → Timed → ℕ
@@ -41,6 +48,8 @@ since (Stuck now patience) p = p.progress
 since (Untried now patience) p = p.tried
 since Waiting p = p.tried
 since Any p = p.progress
+since (Outdated server) p = p.progress
+since (Overdue server now patience) p = p.progress
 
 abbrev pub HasNone : Candidate → Table → Type 0
 HasNone candidate table = All (λ e. passes candidate e.1 ≡ false) table
@@ -102,3 +111,30 @@ TriesAt patience table (Some try) =
     (k : ℕ) × (moment : ℕ) × IsLongest Waiting table k moment × (try ≡ moment + half_of patience)
 TriesAt patience table None =
     HasNone Waiting table ⊎ ((k : ℕ) × (moment : ℕ) × IsLongest Waiting table k moment × (2 ^ 64 ≤ moment + half_of patience))
+
+-- of the connections for which this holds it is the one without progress for the longest time, since this moment
+pub record IsFirstOf (holds : Timed → Bool) (table : Table) (k moment : ℕ) : Type 0 where
+  pub timed : Timed
+  pub there : Contains table (k, timed)
+  pub passing : holds timed ≡ true
+  pub at : timed.progress ≡ moment
+  pub longest : All (λ e. holds e.1 ≡ true → moment ≤ e.1.progress) table
+
+-- Who loses its place at this moment, whether a newcomer waits or not. None is that no one does.
+abbrev pub IsFirstOverdue : Catalogue → ℕ → ℕ → Table → Option ℕ → Type 0
+IsFirstOverdue catalogue now patience table (Some k) = (moment : ℕ) × IsFirstOf (is_overdue catalogue now patience) table k moment
+IsFirstOverdue catalogue now patience table None = All (λ e. is_overdue catalogue now patience e.1 ≡ false) table
+
+-- it keeps bytes of a file that is published no more, and is the one of those without progress for the longest time
+abbrev pub IsFirstOutdated : Catalogue → Table → Option (ℕ × ℕ) → Type 0
+IsFirstOutdated catalogue table (Some found) = IsFirstOf (λ p. is_outdated catalogue p.connection) table found.0 found.1
+IsFirstOutdated catalogue table None = All (λ e. is_outdated catalogue e.1.connection ≡ false) table
+
+-- The first moment at which a connection that keeps bytes of a file that is published no more will have made no progress for as long as
+-- the patience. None is that no connection keeps such bytes, or that no number of 64 bits tells the moment.
+abbrev pub FreesAt : Catalogue → ℕ → Table → Option ℕ → Type 0
+FreesAt catalogue patience table (Some free) =
+    (k : ℕ) × (moment : ℕ) × IsFirstOf (λ p. is_outdated catalogue p.connection) table k moment × (free ≡ moment + patience)
+FreesAt catalogue patience table None =
+    All (λ e. is_outdated catalogue e.1.connection ≡ false) table
+    ⊎ ((k : ℕ) × (moment : ℕ) × IsFirstOf (λ p. is_outdated catalogue p.connection) table k moment × (2 ^ 64 ≤ moment + patience))

@@ -2,14 +2,15 @@
 ghost use Rattle.std.specs.Prelude.{◌≡◌, ◌≢◌, ◌+◌, ◌<◌, ◌≤◌, [], true, false, Some, None, IfOk, IfSome, IsSomeAnd, OnOk, OnErr, is_some, length, nat_eq, option_copied};
 ghost use Rattle.std.specs.Map.{remove_entry};
 ghost use Rattle.std.specs.NonZero.{non_zero_usize_get};
+ghost use Rattle.cog_server.specs.Service.{service_of};
 ghost use Rattle.cog_server.specs.Status.{Rests, start, room_of, after_bytes, after_end, is_closing};
 ghost use Rattle.server_connections.specs.Table.{AreFalling, Becomes, Changes, GoesOnAt, OthersStay, falling_once, timed_after_write, timed_at};
-ghost use Rattle.server_connections.specs.Yielding.{IsUntried, MayYield, TriesAt, WakesAt, Yields};
+ghost use Rattle.server_connections.specs.Yielding.{FreesAt, IsFirstOutdated, IsFirstOverdue, IsUntried, MayYield, TriesAt, WakesAt, Yields, is_overdue};
 
 use crate::candidate::Candidate;
 use crate::timed::Timed;
 use crate::yielding::{half_of, longest};
-use cog_server::{Connection, Server};
+use cog_server::{Connection, Server, Service};
 use http_range::Memory;
 use lru::LruCache;
 use std::alloc::Global;
@@ -112,8 +113,13 @@ impl Connections {
 
     /// Answers the next message of connection `number` at moment `now`, and returns the status code. Returns `None` where no message is
     /// answered.
-    pub fn go_on(&mut self, number: u64, server: &Server, now: u64) -> Result<Option<u16>, Memory>
-        ensures ok { IfOk result (GoesOnAt server.now.catalogue number now (timed_at number self.old.table.entries)
+    pub fn go_on(
+        &mut self,
+        number: u64,
+        service: &Service<'_>,
+        now: u64,
+    ) -> Result<Option<u16>, Memory>
+        ensures ok { IfOk result (GoesOnAt (service_of service.now) number now (timed_at number self.old.table.entries)
             self.old.table.entries self.new.table.entries) }
         ensures err { OnErr result (Changes number (λ p. p) self.old.table.entries self.new.table.entries) }
         // An error comes only on a connection that is there and has a message to be answered.
@@ -124,7 +130,7 @@ impl Connections {
         let Some(timed) = self.table.peek_mut(&number) else {
             return Ok(None);
         };
-        let status = timed.go_on(server, now)?;
+        let status = timed.go_on(service, now)?;
         Ok(status)
     }
 
@@ -180,13 +186,13 @@ impl Connections {
         if self.table.cap().get() == 1 {
             return None;
         }
-        if let Some((number, _moment)) = longest(&self.table, Candidate::Draining) {
+        if let Some((number, _moment)) = longest(&self.table, &Candidate::Draining) {
             return Some(number);
         }
-        if let Some((number, _moment)) = longest(&self.table, Candidate::Idle) {
+        if let Some((number, _moment)) = longest(&self.table, &Candidate::Idle) {
             return Some(number);
         }
-        match longest(&self.table, Candidate::Stuck { now, patience }) {
+        match longest(&self.table, &Candidate::Stuck { now, patience }) {
             Some((number, _moment)) => Some(number),
             None => None,
         }
@@ -197,7 +203,7 @@ impl Connections {
     pub fn untried(&self, now: u64, patience: u64) -> Option<u64>
         ensures { IsUntried now patience self.now.table.entries result }
     {
-        let (number, _moment) = longest(&self.table, Candidate::Untried { now, patience })?;
+        let (number, _moment) = longest(&self.table, &Candidate::Untried { now, patience })?;
         Some(number)
     }
 
@@ -205,7 +211,7 @@ impl Connections {
     pub fn tries_at(&self, patience: u64) -> Option<u64>
         ensures { TriesAt patience self.now.table.entries result }
     {
-        let (_number, moment) = longest(&self.table, Candidate::Waiting)?;
+        let (_number, moment) = longest(&self.table, &Candidate::Waiting)?;
         moment.checked_add(half_of(patience))
     }
 
@@ -213,7 +219,41 @@ impl Connections {
     pub fn wakes_at(&self, patience: u64) -> Option<u64>
         ensures { WakesAt patience self.now.table.entries result }
     {
-        let (_number, moment) = longest(&self.table, Candidate::Any)?;
+        let (_number, moment) = longest(&self.table, &Candidate::Any)?;
         moment.checked_add(patience)
+    }
+
+    /// Returns the number of the connection that loses its slot at moment `now`, whether another one waits or not, or `None`. It keeps
+    /// bytes of a file that `server` publishes no more, and has made no progress for `patience` milliseconds. Its socket was tried at
+    /// moment `now`, and took none. Of several it is the one without progress for the longest time.
+    pub fn overdue(&self, server: &Server, now: u64, patience: u64) -> Option<u64>
+        ensures overdue { IsFirstOverdue server.now.catalogue now patience self.now.table.entries result }
+        ensures found { IfSome result (λ k. IsSomeAnd (timed_at k self.now.table.entries)
+            (λ p. is_overdue server.now.catalogue now patience p ≡ true)) }
+    {
+        let candidate = Candidate::Overdue {
+            server,
+            now,
+            patience,
+        };
+        let (number, _moment) = longest(&self.table, &candidate)?;
+        Some(number)
+    }
+
+    /// Returns the first moment at which a connection that keeps bytes of a replaced file will have made no progress for `patience`
+    /// milliseconds. `server` publishes such a file no more.
+    pub fn frees_at(&self, server: &Server, patience: u64) -> Option<u64>
+        ensures { FreesAt server.now.catalogue patience self.now.table.entries result }
+    {
+        let (_number, moment) = self.first_outdated(server)?;
+        moment.checked_add(patience)
+    }
+
+    /// Returns the connection without progress for the longest time, of those that keep bytes of a file that `server` publishes no more.
+    /// The result is its number, and the moment of its last progress.
+    fn first_outdated(&self, server: &Server) -> Option<(u64, u64)>
+        ensures { IsFirstOutdated server.now.catalogue self.now.table.entries result }
+    {
+        longest(&self.table, &Candidate::Outdated { server })
     }
 }

@@ -1,8 +1,9 @@
 //! A connection, and when it made progress.
 ghost use Rattle.std.specs.Prelude.{◌≡◌, ◌≤◌, ◌==◌, false, if◌then◌else◌, IfOk, OnOk, OnErr, is_some, length};
-ghost use Rattle.cog_server.specs.Status.{GoesOn, Rests, after_bytes, after_end, after_write, is_closing, room_of};
+ghost use Rattle.cog_server.specs.Service.{service_of};
+ghost use Rattle.cog_server.specs.Status.{GoesOnBy, Rests, after_bytes, after_end, after_write, is_closing, room_of};
 
-use cog_server::{Connection, Server};
+use cog_server::{Connection, Service};
 use http_range::Memory;
 
 /// A connection, and the moments at which it made progress and at which its socket was tried.
@@ -35,14 +36,14 @@ impl Timed {
 
     /// Answers the next message, which is progress at moment `now`, and returns the status code. Returns `None` where no message is
     /// answered.
-    pub fn go_on(&mut self, server: &Server, now: u64) -> Result<Option<u16>, Memory>
-        ensures ok { IfOk result (GoesOn server.now.catalogue self.old.connection self.new.connection) }
+    pub fn go_on(&mut self, service: &Service<'_>, now: u64) -> Result<Option<u16>, Memory>
+        ensures ok { IfOk result (GoesOnBy (service_of service.now) self.old.connection self.new.connection) }
         ensures progress { IfOk result (λ status. self.new.progress ≡ (if is_some status then now else self.old.progress)) }
         ensures tried { self.new.tried ≡ self.old.tried }
         ensures err { OnErr result (self.new ≡ self.old) }
         ensures wants { OnErr result (¬ Rests self.old.connection) }
     {
-        let status = self.connection.go_on(server)?;
+        let status = self.connection.go_on_by(service)?;
         if status.is_some() {
             self.progress = now;
         }

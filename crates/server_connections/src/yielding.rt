@@ -39,22 +39,28 @@ fn is_untried(timed: &Timed, now: u64, patience: u64) -> bool
 }
 
 /// Returns whether the connection is one of those that `candidate` names.
-fn passes(timed: &Timed, candidate: Candidate) -> bool
-    ensures { result ≡ passes candidate timed.now }
+fn passes(timed: &Timed, candidate: &Candidate<'_>) -> bool
+    ensures { result ≡ passes candidate.now timed.now }
 {
     match candidate {
         Candidate::Draining => timed.connection.is_draining(),
         Candidate::Idle => timed.connection.is_idle(),
-        Candidate::Stuck { now, patience } => is_stuck(timed, now, patience),
-        Candidate::Untried { now, patience } => is_untried(timed, now, patience),
+        Candidate::Stuck { now, patience } => is_stuck(timed, *now, *patience),
+        Candidate::Untried { now, patience } => is_untried(timed, *now, *patience),
         Candidate::Waiting => has_waiting(timed),
         Candidate::Any => true,
+        Candidate::Outdated { server } => timed.connection.is_outdated(server),
+        Candidate::Overdue {
+            server,
+            now,
+            patience,
+        } => is_stuck(timed, *now, *patience) && timed.connection.is_outdated(server),
     }
 }
 
 /// Returns the moment from which the wait of the connection counts: its last try, where its socket is to be tried, or its last progress.
-fn since(timed: &Timed, candidate: Candidate) -> u64
-    ensures { result ≡ since candidate timed.now }
+fn since(timed: &Timed, candidate: &Candidate<'_>) -> u64
+    ensures { result ≡ since candidate.now timed.now }
 {
     match candidate {
         Candidate::Untried {
@@ -68,7 +74,13 @@ fn since(timed: &Timed, candidate: Candidate) -> u64
             now: _,
             patience: _,
         }
-        | Candidate::Any => timed.progress,
+        | Candidate::Any
+        | Candidate::Outdated { server: _ }
+        | Candidate::Overdue {
+            server: _,
+            now: _,
+            patience: _,
+        } => timed.progress,
     }
 }
 
@@ -83,8 +95,8 @@ fn is_longer(found: Option<(u64, u64)>, moment: u64) -> bool
 }
 
 /// Returns the number of the candidate that has waited longest, with the moment since which it has.
-pub fn longest(table: &LruCache<u64, Timed>, candidate: Candidate) -> Option<(u64, u64)>
-    ensures { Finds candidate table.now.entries result }
+pub fn longest(table: &LruCache<u64, Timed>, candidate: &Candidate<'_>) -> Option<(u64, u64)>
+    ensures { Finds candidate.now table.now.entries result }
 {
     let mut found: Option<(u64, u64)> = None;
     for entry in table.iter() {

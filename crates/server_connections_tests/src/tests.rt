@@ -1,4 +1,5 @@
 //! Tests of connections.
+mod additions;
 mod driving;
 mod memory;
 mod orders;

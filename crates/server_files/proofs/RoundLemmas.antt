@@ -1,14 +1,14 @@
--- Turns, and newcomers behind them.
+-- Turns, and newcomers after them.
 use Rattle.std.proofs.Common.{ℕ, inl, inr}
-use Rattle.http_range.specs.Book.{Catalogue}
+use Rattle.cog_server.specs.Additions.{ServiceState}
 use Rattle.server_sockets.specs.declared.serving.Serving.{Serving}
 use Rattle.server_sockets.specs.Going.{AllWentOn, AllWentOnOrStart}
 use Rattle.server_sockets.specs.Places.{StayOrStart, places_of}
 
 -- who went on, and stays as it is when newcomers come, went on
-pub went_or_started : (catalogue : Catalogue) (now : ℕ) (a b c : Serving) → AllWentOn catalogue now (places_of a) (places_of b) → StayOrStart now b c
-    → AllWentOnOrStart catalogue now (places_of a) (places_of c)
-went_or_started catalogue now a b c turns newcomers = record {
+pub went_or_started : (service : ServiceState) (now : ℕ) (a b c : Serving) → AllWentOn service now (places_of a) (places_of b) → StayOrStart now b c
+    → AllWentOnOrStart service now (places_of a) (places_of c)
+went_or_started service now a b c turns newcomers = record {
   each = λ k p there. elim (newcomers k p there) [
     | inl stays ↦ inl (turns.each k p stays)
     | inr starts ↦ inr starts

@@ -1,5 +1,6 @@
 //! Serving: round by round, as connections come and are ready.
 ghost use Rattle.std.specs.Prelude.{◌≡◌, ◌≤◌, ℕ, [], OnOk, max};
+ghost use Rattle.cog_server.specs.Service.{added_of};
 ghost use Rattle.server_files.specs.Publishing.{KeepsOthersThan, names};
 ghost use Rattle.server_sockets.specs.Going.{AllWentOnOrStart};
 ghost use Rattle.server_sockets.specs.Places.{accepted_of, limits_of, places_of};
@@ -9,7 +10,7 @@ use crate::clock::moment;
 use crate::error::ServeFilesError;
 use crate::lines::Listening;
 use crate::publishing::look_again;
-use cog_server::Server;
+use cog_server::{Additions, Server, Service};
 use disk_files::Watched;
 use server_sockets::{Limits, Serving};
 use std::io;
@@ -67,15 +68,19 @@ fn round<R: Files + Clock + Print + Eprint + AllocGlobal>(
     server: &mut Server,
     files: &mut [Watched<'_>],
     serving: &mut Serving,
+    additions: Additions<'_>,
 ) -> Result<(), ServeFilesError<'static>>
-    // Who has a place had it, and went on from there by events of its own, each answer from what was published before, or starts now.
-    ensures went { (now : ℕ) × AllWentOnOrStart server.old.catalogue now (places_of serving.old) (places_of serving.new) }
+    // Who has a place had it, and went on from there by events of its own, or starts now. Each answer is from what was published before,
+    // with what is added.
+    ensures went { (now : ℕ) × AllWentOnOrStart (record { catalogue = server.old.catalogue; added = added_of additions.entry }) now
+        (places_of serving.old) (places_of serving.new) }
     ensures limits { limits_of serving.new ≡ limits_of serving.old }
     ensures others { KeepsOthersThan (names files.old) server.old server.new }
     ensures names { names files.new ≡ names files.old }
 {
     let now = moment(log.rt);
-    serving.turns(server, now, log);
+    let service = Service::new(server, additions);
+    serving.turns(&service, now, log);
     if serving.accept(now)? > 0 {
         look_again(log, server, files);
     }
@@ -88,6 +93,7 @@ fn serve_rounds<R>(
     server: &mut Server,
     files: &mut [Watched<'_>],
     serving: &mut Serving,
+    additions: Additions<'_>,
 ) -> Result<(), ServeFilesError<'static>>
 where
     R: Files + Clock + Print + Eprint + AllocGlobal,
@@ -98,7 +104,7 @@ where
 {
     let mut printed = 0;
     for _ in 0..u64::MAX {
-        round(log, server, files, serving)?;
+        round(log, server, files, serving, additions)?;
         printed = print_served(log.rt, printed, serving.ended());
         if serving.is_over() {
             return Ok(());
@@ -110,13 +116,15 @@ where
     Err(ServeFilesError::CantWait(io::Error::from(ErrorKind::Other)))
 }
 
-/// Serves connections within `limits`, until each has ended. Looks at the files when connections came, once for all that came together.
+/// Serves connections within `limits`, until each has ended. Each answer has what `additions` say. Looks at the files when connections
+/// came, once for all that came together.
 pub fn serve_connections<R>(
     log: &mut AccessLog<'_, R>,
     server: &mut Server,
     files: &mut [Watched<'_>],
     listener: TcpListener,
     limits: Limits,
+    additions: Additions<'_>,
 ) -> Result<(), ServeFilesError<'static>>
 where
     R: Files + Clock + Print + Eprint + AllocGlobal + Net,
@@ -127,5 +135,5 @@ where
         Ok(serving) => serving,
         Err(error) => return Err(ServeFilesError::CantListen(error)),
     };
-    serve_rounds(log, server, files, &mut serving)
+    serve_rounds(log, server, files, &mut serving, additions)
 }

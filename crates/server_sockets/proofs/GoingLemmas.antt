@@ -7,7 +7,7 @@ use Rattle.std.proofs.lemmas.Bool.Decides.{nat_tests}
 use Rattle.std.proofs.lemmas.List.{length-take-le}
 use Rattle.std.proofs.lemmas.List.Folds.{list_any-append}
 use Rattle.std.proofs.lemmas.Option.{none-some}
-use Rattle.http_range.specs.Book.{Catalogue}
+use Rattle.cog_server.specs.Additions.{ServiceState}
 use Rattle.cog_server.specs.Received.{after_read}
 use Rattle.cog_server.specs.Run.{AreFrom, CanHappen, CanRun, Event, Exchange, Past, happened, run}
 use Rattle.cog_server.specs.Run.Event.{Came, Came_to_end, Answered, Wrote}
@@ -31,7 +31,7 @@ can_append (e ∷ first) next p can may = (can.0, can_append first next (happene
 same_event : (e : Event) (p q : Past) → p.status ≡ q.status → (happened e p).status ≡ (happened e q).status
 same_event (Came bytes) p q same = ap (after_bytes bytes) same
 same_event Came_to_end p q same = ap after_end same
-same_event (Answered e) p q same = ap (after_answer e.message e.response) same
+same_event (Answered e) p q same = ap (after_answer e.message e.sent) same
 same_event (Wrote n) p q same = ap (after_write n) same
 
 pub same_run : (es : List Event) (p q : Past) → p.status ≡ q.status → (run es p).status ≡ (run es q).status
@@ -43,46 +43,46 @@ same_can [] p q same can = tt
 same_can (e ∷ es) p q same can =
     (subst (CanHappen e) same can.0, same_can es (happened e p) (happened e q) (same_event e p q same) can.1)
 
--- ---- exchanges of one catalogue
+-- ---- exchanges of one service
 
-from_first : (catalogue : Catalogue) (xs ys : List Exchange) → AreFrom catalogue (xs ++ ys) → AreFrom catalogue xs
-from_first catalogue [] ys h = tt
-from_first catalogue (x ∷ xs) ys h = (h.0, from_first catalogue xs ys h.1)
+from_first : (service : ServiceState) (xs ys : List Exchange) → AreFrom service (xs ++ ys) → AreFrom service xs
+from_first service [] ys h = tt
+from_first service (x ∷ xs) ys h = (h.0, from_first service xs ys h.1)
 
-from_last : (catalogue : Catalogue) (xs ys : List Exchange) → AreFrom catalogue (xs ++ ys) → AreFrom catalogue ys
-from_last catalogue [] ys h = h
-from_last catalogue (x ∷ xs) ys h = from_last catalogue xs ys h.1
+from_last : (service : ServiceState) (xs ys : List Exchange) → AreFrom service (xs ++ ys) → AreFrom service ys
+from_last service [] ys h = h
+from_last service (x ∷ xs) ys h = from_last service xs ys h.1
 
-from_append : (catalogue : Catalogue) (xs ys : List Exchange) → AreFrom catalogue xs → AreFrom catalogue ys → AreFrom catalogue (xs ++ ys)
-from_append catalogue [] ys first next = next
-from_append catalogue (x ∷ xs) ys first next = (first.0, from_append catalogue xs ys first.1 next)
+from_append : (service : ServiceState) (xs ys : List Exchange) → AreFrom service xs → AreFrom service ys → AreFrom service (xs ++ ys)
+from_append service [] ys first next = next
+from_append service (x ∷ xs) ys first next = (first.0, from_append service xs ys first.1 next)
 
-from_before : (catalogue : Catalogue) (es : List Event) (p : Past) → AreFrom catalogue (run es p).exchanges → AreFrom catalogue p.exchanges
-from_before catalogue [] p h = h
-from_before catalogue (Came bytes ∷ es) p h = from_before catalogue es (happened (Came bytes) p) h
-from_before catalogue (Came_to_end ∷ es) p h = from_before catalogue es (happened Came_to_end p) h
-from_before catalogue (Answered e ∷ es) p h =
-    from_first catalogue p.exchanges (e ∷ []) (from_before catalogue es (happened (Answered e) p) h)
-from_before catalogue (Wrote n ∷ es) p h = from_before catalogue es (happened (Wrote n) p) h
+from_before : (service : ServiceState) (es : List Event) (p : Past) → AreFrom service (run es p).exchanges → AreFrom service p.exchanges
+from_before service [] p h = h
+from_before service (Came bytes ∷ es) p h = from_before service es (happened (Came bytes) p) h
+from_before service (Came_to_end ∷ es) p h = from_before service es (happened Came_to_end p) h
+from_before service (Answered e ∷ es) p h =
+    from_first service p.exchanges (e ∷ []) (from_before service es (happened (Answered e) p) h)
+from_before service (Wrote n ∷ es) p h = from_before service es (happened (Wrote n) p) h
 
 -- what is answered in a run doesn't depend on what was before
-from_behind : (catalogue : Catalogue) (es : List Event) (p q : Past) → AreFrom catalogue p.exchanges → AreFrom catalogue (run es q).exchanges
-    → AreFrom catalogue (run es p).exchanges
-from_behind catalogue [] p q first next = first
-from_behind catalogue (Came bytes ∷ es) p q first next =
-    from_behind catalogue es (happened (Came bytes) p) (happened (Came bytes) q) first next
-from_behind catalogue (Came_to_end ∷ es) p q first next =
-    from_behind catalogue es (happened Came_to_end p) (happened Came_to_end q) first next
-from_behind catalogue (Answered e ∷ es) p q first next =
-    let this = from_last catalogue q.exchanges (e ∷ []) (from_before catalogue es (happened (Answered e) q) next) in
-    from_behind catalogue es (happened (Answered e) p) (happened (Answered e) q) (from_append catalogue p.exchanges (e ∷ []) first this) next
-from_behind catalogue (Wrote n ∷ es) p q first next =
-    from_behind catalogue es (happened (Wrote n) p) (happened (Wrote n) q) first next
+from_behind : (service : ServiceState) (es : List Event) (p q : Past) → AreFrom service p.exchanges → AreFrom service (run es q).exchanges
+    → AreFrom service (run es p).exchanges
+from_behind service [] p q first next = first
+from_behind service (Came bytes ∷ es) p q first next =
+    from_behind service es (happened (Came bytes) p) (happened (Came bytes) q) first next
+from_behind service (Came_to_end ∷ es) p q first next =
+    from_behind service es (happened Came_to_end p) (happened Came_to_end q) first next
+from_behind service (Answered e ∷ es) p q first next =
+    let this = from_last service q.exchanges (e ∷ []) (from_before service es (happened (Answered e) q) next) in
+    from_behind service es (happened (Answered e) p) (happened (Answered e) q) (from_append service p.exchanges (e ∷ []) first this) next
+from_behind service (Wrote n ∷ es) p q first next =
+    from_behind service es (happened (Wrote n) p) (happened (Wrote n) q) first next
 
 -- ---- one connection
 
-still : (catalogue : Catalogue) (now : ℕ) (p : Timed) → WentOn catalogue now p p
-still catalogue now p = record { events = []; can = tt; from = tt; connection = refl; progress = refl; tried = refl }
+still : (service : ServiceState) (now : ℕ) (p : Timed) → WentOn service now p p
+still service now p = record { events = []; can = tt; from = tt; connection = refl; progress = refl; tried = refl }
 
 either : (a b : Bool) (now old : ℕ) → (if b then now else (if a then now else old)) ≡ (if a || b then now else old)
 either true true now old = refl
@@ -90,8 +90,8 @@ either true false now old = refl
 either false true now old = refl
 either false false now old = refl
 
-went_on : (catalogue : Catalogue) (now : ℕ) (p q r : Timed) → WentOn catalogue now p q → WentOn catalogue now q r → WentOn catalogue now p r
-went_on catalogue now p q r first next =
+went_on : (service : ServiceState) (now : ℕ) (p q r : Timed) → WentOn service now p q → WentOn service now q r → WentOn service now p r
+went_on service now p q r first next =
     let begin = since p.connection in
     let middle = run first.events begin in
     let again = since q.connection in
@@ -101,8 +101,8 @@ went_on catalogue now p q r first next =
     record {
       events = first.events ++ next.events;
       can = can_append first.events next.events begin first.can (same_can next.events again middle first.connection next.can);
-      from = subst (λ (x : Past). AreFrom catalogue x.exchanges) (sym whole)
-          (from_behind catalogue next.events middle again first.from next.from);
+      from = subst (λ (x : Past). AreFrom service x.exchanges) (sym whole)
+          (from_behind service next.events middle again first.from next.from);
       connection = next.connection ∙ same_run next.events again middle first.connection ∙ ap (λ (x : Past). x.status) (sym whole);
       progress = next.progress ∙ ap (λ (n : ℕ). if list_any is_progress next.events then now else n) first.progress
           ∙ either (list_any is_progress first.events) (list_any is_progress next.events) now p.progress
@@ -112,20 +112,20 @@ went_on catalogue now p q r first next =
           ∙ ap (λ (b : Bool). if b then now else p.tried) (sym tried);
     }
 
-read : (catalogue : Catalogue) (now : ℕ) (p : Timed) (bytes : List ℕ) → length bytes ≤ room_of p.connection
-    → WentOn catalogue now p (record p { connection = after_read bytes p.connection })
-read catalogue now p [] room =
+read : (service : ServiceState) (now : ℕ) (p : Timed) (bytes : List ℕ) → length bytes ≤ room_of p.connection
+    → WentOn service now p (record p { connection = after_read bytes p.connection })
+read service now p [] room =
     record { events = Came_to_end ∷ []; can = (tt, tt); from = tt; connection = refl; progress = refl; tried = refl }
-read catalogue now p (b ∷ bytes) room =
+read service now p (b ∷ bytes) room =
     record { events = Came (b ∷ bytes) ∷ []; can = (room, tt); from = tt; connection = refl; progress = refl; tried = refl }
 
 written : (none : Bool) (now old : ℕ) → (if none then old else now) ≡ (if not none || false then now else old)
 written true now old = refl
 written false now old = refl
 
-wrote : (catalogue : Catalogue) (now : ℕ) (p : Timed) (n : ℕ) → n ≤ length p.connection.waiting
-    → WentOn catalogue now p (timed_after_write n now p)
-wrote catalogue now p n few =
+wrote : (service : ServiceState) (now : ℕ) (p : Timed) (n : ℕ) → n ≤ length p.connection.waiting
+    → WentOn service now p (timed_after_write n now p)
+wrote service now p n few =
     record { events = Wrote n ∷ []; can = (few, tt); from = tt; connection = refl; progress = written (n == 0) now p.progress; tried = refl }
 
 -- ---- tables
@@ -134,25 +134,25 @@ of_some : {P Q : Timed → Type 0} (o : Option Timed) → ((p : Timed) → P p �
 of_some None f h = h
 of_some (Some p) f h = f p h
 
-on_by : (catalogue : Catalogue) (now k : ℕ) (a b : Table) (r : Timed) (o : Option Timed) → timed_at k b ≡ o → AllWentOn catalogue now a b
-    → IsSomeAnd o (λ q. WentOn catalogue now q r) → IsSomeAnd (timed_at k a) (λ p. WentOn catalogue now p r)
-on_by catalogue now k a b r None is first next = absurd next
-on_by catalogue now k a b r (Some q) is first next =
-    of_some (timed_at k a) (λ p went. went_on catalogue now p q r went next) (first.each k q is)
+on_by : (service : ServiceState) (now k : ℕ) (a b : Table) (r : Timed) (o : Option Timed) → timed_at k b ≡ o → AllWentOn service now a b
+    → IsSomeAnd o (λ q. WentOn service now q r) → IsSomeAnd (timed_at k a) (λ p. WentOn service now p r)
+on_by service now k a b r None is first next = absurd next
+on_by service now k a b r (Some q) is first next =
+    of_some (timed_at k a) (λ p went. went_on service now p q r went next) (first.each k q is)
 
 -- where all went on at first, and then, all did
-pub all_on : (catalogue : Catalogue) (now : ℕ) (a b c : Table) → AllWentOn catalogue now a b → AllWentOn catalogue now b c
-    → AllWentOn catalogue now a c
-all_on catalogue now a b c first next = record {
-  each = λ k r there. on_by catalogue now k a b r (timed_at k b) refl first (next.each k r there);
+pub all_on : (service : ServiceState) (now : ℕ) (a b c : Table) → AllWentOn service now a b → AllWentOn service now b c
+    → AllWentOn service now a c
+all_on service now a b c first next = record {
+  each = λ k r there. on_by service now k a b r (timed_at k b) refl first (next.each k r there);
 }
 
 -- who is there as it was went on by nothing
-pub all_still : (catalogue : Catalogue) (now : ℕ) (old new : Table)
-    → ((k : ℕ) (p : Timed) → timed_at k new ≡ Some p → timed_at k old ≡ Some p) → AllWentOn catalogue now old new
-all_still catalogue now old new same = record {
+pub all_still : (service : ServiceState) (now : ℕ) (old new : Table)
+    → ((k : ℕ) (p : Timed) → timed_at k new ≡ Some p → timed_at k old ≡ Some p) → AllWentOn service now old new
+all_still service now old new same = record {
   each = λ k p there.
-      subst (λ (o : Option Timed). IsSomeAnd o (λ before. WentOn catalogue now before p)) (sym (same k p there)) (still catalogue now p);
+      subst (λ (o : Option Timed). IsSomeAnd o (λ before. WentOn service now before p)) (sym (same k p there)) (still service now p);
 }
 
 is_number : (k j : ℕ) → nat_eq k j ≡ true → j ≡ k
@@ -162,29 +162,29 @@ other_number : (k j : ℕ) → nat_eq k j ≡ false → j ≢ k
 other_number k j e = grind (arith, nat_tests)
 
 -- one went on, and the others stay
-one_on : (catalogue : Catalogue) (now k : ℕ) (old new : Table) → OthersStay k old new
-    → ((p : Timed) → timed_at k new ≡ Some p → IsSomeAnd (timed_at k old) (λ before. WentOn catalogue now before p))
-    → AllWentOn catalogue now old new
-one_on catalogue now k old new others here = record {
+one_on : (service : ServiceState) (now k : ℕ) (old new : Table) → OthersStay k old new
+    → ((p : Timed) → timed_at k new ≡ Some p → IsSomeAnd (timed_at k old) (λ before. WentOn service now before p))
+    → AllWentOn service now old new
+one_on service now k old new others here = record {
   each = λ j p there. elim (cases_Bool (nat_eq k j)) [
     | inl same ↦ (let is = is_number k j same in
-        subst (λ (i : ℕ). IsSomeAnd (timed_at i old) (λ before. WentOn catalogue now before p)) (sym is)
+        subst (λ (i : ℕ). IsSomeAnd (timed_at i old) (λ before. WentOn service now before p)) (sym is)
         (here p (subst (λ (i : ℕ). timed_at i new ≡ Some p) is there)))
-    | inr other ↦ subst (λ (o : Option Timed). IsSomeAnd o (λ before. WentOn catalogue now before p))
-        (sym (sym (others j (other_number k j other)) ∙ there)) (still catalogue now p)
+    | inr other ↦ subst (λ (o : Option Timed). IsSomeAnd o (λ before. WentOn service now before p))
+        (sym (sym (others j (other_number k j other)) ∙ there)) (still service now p)
   ];
 }
 
-changed_from : (catalogue : Catalogue) (now : ℕ) (f : Timed → Timed) (o : Option Timed) (q : Timed) → option_map f o ≡ Some q
-    → IfSome o (λ p. WentOn catalogue now p (f p)) → IsSomeAnd o (λ p. WentOn catalogue now p q)
-changed_from catalogue now f None q is went = absurd (none-some q is)
-changed_from catalogue now f (Some p) q is went = subst (λ (o : Option Timed). IsSomeAnd o (λ t. WentOn catalogue now p t)) is went
+changed_from : (service : ServiceState) (now : ℕ) (f : Timed → Timed) (o : Option Timed) (q : Timed) → option_map f o ≡ Some q
+    → IfSome o (λ p. WentOn service now p (f p)) → IsSomeAnd o (λ p. WentOn service now p q)
+changed_from service now f None q is went = absurd (none-some q is)
+changed_from service now f (Some p) q is went = subst (λ (o : Option Timed). IsSomeAnd o (λ t. WentOn service now p t)) is went
 
-changed : (catalogue : Catalogue) (now k : ℕ) (f : Timed → Timed) (old new : Table) → Changes k f old new
-    → IfSome (timed_at k old) (λ p. WentOn catalogue now p (f p)) → AllWentOn catalogue now old new
-changed catalogue now k f old new changes went =
-    one_on catalogue now k old new changes.others
-    (λ q there. changed_from catalogue now f (timed_at k old) q (sym changes.here ∙ there) went)
+changed : (service : ServiceState) (now k : ℕ) (f : Timed → Timed) (old new : Table) → Changes k f old new
+    → IfSome (timed_at k old) (λ p. WentOn service now p (f p)) → AllWentOn service now old new
+changed service now k f old new changes went =
+    one_on service now k old new changes.others
+    (λ q there. changed_from service now f (timed_at k old) q (sym changes.here ∙ there) went)
 
 if_some : {P Q : Timed → Type 0} (o : Option Timed) → ((p : Timed) → P p → Q p) → IfSome o P → IfSome o Q
 if_some None f h = h
@@ -195,39 +195,39 @@ all_there None f = tt
 all_there (Some p) f = f p
 
 -- nothing happens to any
-pub none_on : (catalogue : Catalogue) (now k : ℕ) (old new : Table) → Changes k (λ p. p) old new → AllWentOn catalogue now old new
-none_on catalogue now k old new changes =
-    changed catalogue now k (λ p. p) old new changes (all_there (timed_at k old) (still catalogue now))
+pub none_on : (service : ServiceState) (now k : ℕ) (old new : Table) → Changes k (λ p. p) old new → AllWentOn service now old new
+none_on service now k old new changes =
+    changed service now k (λ p. p) old new changes (all_there (timed_at k old) (still service now))
 
 -- bytes come on one, or its end
-pub read_on : (catalogue : Catalogue) (now k n : ℕ) (bytes : List ℕ) (old new : Table)
+pub read_on : (service : ServiceState) (now k n : ℕ) (bytes : List ℕ) (old new : Table)
     → Changes k (λ p. record p { connection = after_read (take n bytes) p.connection }) old new → n ≤ length bytes
-    → IfSome (timed_at k old) (λ p. n ≤ room_of p.connection) → AllWentOn catalogue now old new
-read_on catalogue now k n bytes old new changes within room =
+    → IfSome (timed_at k old) (λ p. n ≤ room_of p.connection) → AllWentOn service now old new
+read_on service now k n bytes old new changes within room =
     let few = length-take-le n bytes within in
-    changed catalogue now k (λ p. record p { connection = after_read (take n bytes) p.connection }) old new changes
-    (if_some (timed_at k old) (λ p fits. read catalogue now p (take n bytes) (subst (λ (i : ℕ). i ≤ room_of p.connection) (sym few) fits)) room)
+    changed service now k (λ p. record p { connection = after_read (take n bytes) p.connection }) old new changes
+    (if_some (timed_at k old) (λ p fits. read service now p (take n bytes) (subst (λ (i : ℕ). i ≤ room_of p.connection) (sym few) fits)) room)
 
 -- or the reading failed
-pub read_or_not : {E : Type 0} (catalogue : Catalogue) (now k : ℕ) (result : Result ℕ E) (bytes : List ℕ) (old new : Table)
+pub read_or_not : {E : Type 0} (service : ServiceState) (now k : ℕ) (result : Result ℕ E) (bytes : List ℕ) (old new : Table)
     → IfOk result (λ n. n ≤ length bytes) → IfOk result (λ n. IfSome (timed_at k old) (λ p. n ≤ room_of p.connection))
     → IfOk result (λ n. Changes k (λ p. record p { connection = after_read (take n bytes) p.connection }) old new)
-    → OnErr result (Changes k (λ p. p) old new) → AllWentOn catalogue now old new
-read_or_not catalogue now k (Ok n) bytes old new within room came err = read_on catalogue now k n bytes old new came within room
-read_or_not catalogue now k (Err e) bytes old new within room came err = none_on catalogue now k old new err
+    → OnErr result (Changes k (λ p. p) old new) → AllWentOn service now old new
+read_or_not service now k (Ok n) bytes old new within room came err = read_on service now k n bytes old new came within room
+read_or_not service now k (Err e) bytes old new within room came err = none_on service now k old new err
 
 -- bytes of one are written
-pub written_on : (catalogue : Catalogue) (now k n : ℕ) (old new : Table) → Changes k (timed_after_write n now) old new
-    → IfSome (timed_at k old) (λ p. n ≤ length p.connection.waiting) → AllWentOn catalogue now old new
-written_on catalogue now k n old new changes few =
-    changed catalogue now k (timed_after_write n now) old new changes
-    (if_some (timed_at k old) (λ p fits. wrote catalogue now p n fits) few)
+pub written_on : (service : ServiceState) (now k n : ℕ) (old new : Table) → Changes k (timed_after_write n now) old new
+    → IfSome (timed_at k old) (λ p. n ≤ length p.connection.waiting) → AllWentOn service now old new
+written_on service now k n old new changes few =
+    changed service now k (timed_after_write n now) old new changes
+    (if_some (timed_at k old) (λ p fits. wrote service now p n fits) few)
 
 -- it was tried to write, and none were taken
-pub tried_on : (catalogue : Catalogue) (now k : ℕ) (old new : Table) → Changes k (timed_after_write 0 now) old new
-    → AllWentOn catalogue now old new
-tried_on catalogue now k old new changes =
-    written_on catalogue now k 0 old new changes (all_there (timed_at k old) (λ p. omega arith))
+pub tried_on : (service : ServiceState) (now k : ℕ) (old new : Table) → Changes k (timed_after_write 0 now) old new
+    → AllWentOn service now old new
+tried_on service now k old new changes =
+    written_on service now k 0 old new changes (all_there (timed_at k old) (λ p. omega arith))
 
 mapped : (Q : Timed → Type 0) (f : Timed → Timed) (o r : Option Timed) → r ≡ option_map f o → ((p : Timed) → Q (f p)) → IfSome r Q
 mapped Q f None r is all = subst (λ (x : Option Timed). IfSome x Q) (sym is) tt
@@ -251,28 +251,28 @@ open_still now k old new changes is = mapped_open now (timed_at k old) (timed_at
 pub none_tried : (now k : ℕ) (table : Table) → timed_at k table ≡ None → IsTriedAt now k table
 none_tried now k table none = subst (λ (x : Option Timed). IfSome x (λ p. p.tried ≡ now)) (sym none) tt
 
-becomes_on : (catalogue : Catalogue) (now k : ℕ) (old new : Table) (p q : Timed) → timed_at k old ≡ Some p → Becomes k (Some q) old new
-    → WentOn catalogue now p q → AllWentOn catalogue now old new
-becomes_on catalogue now k old new p q is becomes went =
-    one_on catalogue now k old new becomes.others
-    (λ r there. subst (λ (o : Option Timed). IsSomeAnd o (λ before. WentOn catalogue now before r)) (sym is)
-    (subst (λ (o : Option Timed). IsSomeAnd o (λ t. WentOn catalogue now p t)) (sym becomes.here ∙ there) went))
+becomes_on : (service : ServiceState) (now k : ℕ) (old new : Table) (p q : Timed) → timed_at k old ≡ Some p → Becomes k (Some q) old new
+    → WentOn service now p q → AllWentOn service now old new
+becomes_on service now k old new p q is becomes went =
+    one_on service now k old new becomes.others
+    (λ r there. subst (λ (o : Option Timed). IsSomeAnd o (λ before. WentOn service now before r)) (sym is)
+    (subst (λ (o : Option Timed). IsSomeAnd o (λ t. WentOn service now p t)) (sym becomes.here ∙ there) went))
 
 -- the next message of one is answered, or none is
-answered_at : (catalogue : Catalogue) (now k : ℕ) (old new : Table) (status : Option ℕ) (o : Option Timed) → timed_at k old ≡ o
-    → GoesOnAt catalogue k now o old new status → AllWentOn catalogue now old new
-answered_at catalogue now k old new status None is h = all_still catalogue now old new (λ j p there. ap (timed_at j) (sym h.1) ∙ there)
-answered_at catalogue now k old new (Some status) (Some p) is h =
-    let e : Exchange = record { catalogue = catalogue; message = h.1.0; response = h.1.1 } in
-    becomes_on catalogue now k old new p (record { connection = h.0; progress = now; tried = p.tried }) is h.2
+answered_at : (service : ServiceState) (now k : ℕ) (old new : Table) (status : Option ℕ) (o : Option Timed) → timed_at k old ≡ o
+    → GoesOnAt service k now o old new status → AllWentOn service now old new
+answered_at service now k old new status None is h = all_still service now old new (λ j p there. ap (timed_at j) (sym h.1) ∙ there)
+answered_at service now k old new (Some status) (Some p) is h =
+    let e : Exchange = record { service = service; message = h.1.0; sent = h.1.1 } in
+    becomes_on service now k old new p (record { connection = h.0; progress = now; tried = p.tried }) is h.2
     (record { events = Answered e ∷ []; can = (h.1.2, tt); from = (refl, tt); connection = h.1.3; progress = refl; tried = refl })
-answered_at catalogue now k old new None (Some p) is h =
-    becomes_on catalogue now k old new p (record { connection = h.0; progress = p.progress; tried = p.tried }) is h.2
+answered_at service now k old new None (Some p) is h =
+    becomes_on service now k old new p (record { connection = h.0; progress = p.progress; tried = p.tried }) is h.2
     (record { events = []; can = tt; from = tt; connection = h.1.0; progress = refl; tried = refl })
 
-pub answered_on : (catalogue : Catalogue) (now k : ℕ) (old new : Table) (status : Option ℕ)
-    → GoesOnAt catalogue k now (timed_at k old) old new status → AllWentOn catalogue now old new
-answered_on catalogue now k old new status h = answered_at catalogue now k old new status (timed_at k old) refl h
+pub answered_on : (service : ServiceState) (now k : ℕ) (old new : Table) (status : Option ℕ)
+    → GoesOnAt service k now (timed_at k old) old new status → AllWentOn service now old new
+answered_on service now k old new status h = answered_at service now k old new status (timed_at k old) refl h
 
 -- what a step of a turn makes of the connections
 pub ruleset steps = (none_on, written_on, tried_on, open_still, answered_on, all_on)

@@ -17,12 +17,16 @@ one_less k (e ∷ table) p there =
       | inr other ↦ rw other (omega (arith, one_less k table p (rw other at there)))
     ]
 
-there_less : (now patience k : ℕ) (table : Table) (o : Option Timed) → timed_at k table ≡ o → IsSomeAnd o (MayYield now patience)
+there_less : (P : Timed → Type 0) (k : ℕ) (table : Table) (o : Option Timed) → timed_at k table ≡ o → IsSomeAnd o P
     → length (remove_entry (nat_eq k) table) + 1 ≡ length table
-there_less now patience k table None is may = absurd may
-there_less now patience k table (Some p) is may = one_less k table p is
+there_less P k table None is may = absurd may
+there_less P k table (Some p) is may = one_less k table p is
+
+pub found_less : (P : Timed → Type 0) (k : ℕ) (old new : Table) → IsSomeAnd (timed_at k old) P → new ≡ remove_entry (nat_eq k) old
+    → length new + 1 ≡ length old
+found_less P k old new may is =
+    subst (λ (table : Table). length table + 1 ≡ length old) (sym is) (there_less P k old (timed_at k old) refl may)
 
 pub taken_less : (now patience k : ℕ) (old new : Table) → IsSomeAnd (timed_at k old) (MayYield now patience)
     → new ≡ remove_entry (nat_eq k) old → length new + 1 ≡ length old
-taken_less now patience k old new may is =
-    subst (λ (table : Table). length table + 1 ≡ length old) (sym is) (there_less now patience k old (timed_at k old) refl may)
+taken_less now patience k old new may is = found_less (MayYield now patience) k old new may is

@@ -1,6 +1,6 @@
 -- What nobody's coming is, and who keeps a place.
 use Rattle.std.proofs.Common.{◌≡◌, ◌∙◌, ◌+◌, ◌-◌, ◌<◌, ◌≤◌, ◌⊎◌, ℕ, arith, false, length, Option, None, Some, refl, sym, le_trans, subst, inl, inr}
-use Rattle.http_range.specs.Book.{Catalogue}
+use Rattle.cog_server.specs.Additions.{ServiceState}
 use Rattle.server_connections.specs.declared.timed.Timed.{Timed}
 use Rattle.server_sockets.specs.declared.serving.Serving.{Serving}
 use Rattle.server_connections.specs.Table.{timed_at}
@@ -38,10 +38,10 @@ pub same_on : (a b c : Serving) → NoneChanges a b → NoneChanges b c → None
 same_on a b c first then k p there = first k p (then k p there)
 
 -- all went on, and then some lose their places
-pub went_still : (catalogue : Catalogue) (now : ℕ) (a b c : Serving) → AllWentOn catalogue now (places_of a) (places_of b) → NoneChanges b c
-    → AllWentOn catalogue now (places_of a) (places_of c)
-went_still catalogue now a b c went same =
-    all_on catalogue now (places_of a) (places_of b) (places_of c) went (all_still catalogue now (places_of b) (places_of c) same)
+pub went_still : (service : ServiceState) (now : ℕ) (a b c : Serving) → AllWentOn service now (places_of a) (places_of b) → NoneChanges b c
+    → AllWentOn service now (places_of a) (places_of c)
+went_still service now a b c went same =
+    all_on service now (places_of a) (places_of b) (places_of c) went (all_still service now (places_of b) (places_of c) same)
 
 -- who is there was there, or starts, where some lose their places
 pub start_fewer : (now : ℕ) (a b : Serving) → NoneChanges a b → StayOrStart now a b

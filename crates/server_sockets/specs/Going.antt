@@ -1,7 +1,7 @@
 -- How connections go on.
 use Rattle.std.specs.Prelude.{◌≡◌, ◌⊎◌, ◌==◌, ℕ, not, if◌then◌else◌, Bool, true, false, List, [], Some, IsSomeAnd}
 use Rattle.std.specs.List.{list_any}
-use Rattle.http_range.specs.Book.{Catalogue}
+use Rattle.cog_server.specs.Additions.{ServiceState}
 use Rattle.cog_server.specs.Run.{AreFrom, CanRun, Event, IsAnsweredAlone, Past, none_yet, run}
 use Rattle.cog_server.specs.Run.Event.{Came, Came_to_end, Answered, Wrote}
 use Rattle.cog_server.specs.Status.{Status}
@@ -27,24 +27,24 @@ is_try Came_to_end = false
 is_try (Answered e) = false
 is_try (Wrote n) = true
 
--- The connection went on from there by events that may happen, each message answered from this catalogue. Where there was progress, or a
+-- The connection went on from there by events that may happen, each message answered by this service. Where there was progress, or a
 -- try to write, it was at this moment.
-pub record WentOn (catalogue : Catalogue) (now : ℕ) (old new : Timed) : Type 0 where
+pub record WentOn (service : ServiceState) (now : ℕ) (old new : Timed) : Type 0 where
   pub events : List Event
   pub can : CanRun events (since old.connection)
-  pub from : AreFrom catalogue (run events (since old.connection)).exchanges
+  pub from : AreFrom service (run events (since old.connection)).exchanges
   pub connection : new.connection ≡ (run events (since old.connection)).status
   pub progress : new.progress ≡ (if list_any is_progress events then now else old.progress)
   pub tried : new.tried ≡ (if list_any is_try events then now else old.tried)
 
--- who has a place had it, and went on from there by events of its own, each answer from this catalogue
-pub record AllWentOn (catalogue : Catalogue) (now : ℕ) (old new : Table) : Type 0 where
-  pub each : (k : ℕ) (p : Timed) → timed_at k new ≡ Some p → IsSomeAnd (timed_at k old) (λ before. WentOn catalogue now before p)
+-- who has a place had it, and went on from there by events of its own, each answer by this service
+pub record AllWentOn (service : ServiceState) (now : ℕ) (old new : Table) : Type 0 where
+  pub each : (k : ℕ) (p : Timed) → timed_at k new ≡ Some p → IsSomeAnd (timed_at k old) (λ before. WentOn service now before p)
 
 -- who has a place went on so, or starts at this moment
-pub record AllWentOnOrStart (catalogue : Catalogue) (now : ℕ) (old new : Table) : Type 0 where
+pub record AllWentOnOrStart (service : ServiceState) (now : ℕ) (old new : Table) : Type 0 where
   pub each : (k : ℕ) (p : Timed) → timed_at k new ≡ Some p
-      → IsSomeAnd (timed_at k old) (λ before. WentOn catalogue now before p) ⊎ HasStartedAt k now new
+      → IsSomeAnd (timed_at k old) (λ before. WentOn service now before p) ⊎ HasStartedAt k now new
 
 -- ---- from the start
 
@@ -59,6 +59,6 @@ pub record HasRun (s : Status) : Type 0 where
 abbrev pub AllHaveRun : Table → Type 0
 AllHaveRun table = (k : ℕ) (p : Timed) → timed_at k table ≡ Some p → HasRun p.connection
 
--- whoever goes on, or starts, from whatever catalogue, at whatever moment
+-- whoever goes on, or starts, by whatever service, at whatever moment
 abbrev pub RunsGoOn : Type 0
-RunsGoOn = (catalogue : Catalogue) (now : ℕ) (old new : Table) → AllWentOnOrStart catalogue now old new → AllHaveRun old → AllHaveRun new
+RunsGoOn = (service : ServiceState) (now : ℕ) (old new : Table) → AllWentOnOrStart service now old new → AllHaveRun old → AllHaveRun new

@@ -1,5 +1,5 @@
 -- What others know of a server's sockets.
-use Rattle.std.specs.Prelude.{◌≡◌, ◌≢◌, ◌<◌, ◌⊎◌, ◌+◌, ◌-◌, ◌*◌, ◌^◌, ◌≤◌, ℕ, [], length, false, true, min, slice_get, Option, None, Some, IfSome, IsSomeAnd}
+use Rattle.std.specs.Prelude.{◌≡◌, ◌≢◌, ◌<◌, ◌⊎◌, ◌+◌, ◌-◌, ◌*◌, ◌^◌, ◌≤◌, ℕ, [], length, false, true, min, slice_get, Option, None, Some, IfSome, IsSome, IsSomeAnd}
 use Rattle.std.specs.declared.time.Duration.{Duration}
 use Rattle.std.specs.Duration.{as_nanos}
 use Rattle.server_connections.specs.declared.timed.Timed.{Timed}
@@ -32,6 +32,15 @@ room_of s = s.open_connections.connections.table.cap
 -- the number of the next one that gets a place
 abbrev pub next_of : Serving → ℕ
 next_of s = s.open_connections.connections.next
+
+-- the first moment at which a connection that keeps bytes of a replaced file will have made no progress for as long as the patience, as it was
+-- last looked for
+abbrev pub frees_of : Serving → Option ℕ
+frees_of s = s.frees_at
+
+-- one kept such bytes then, or there were other publications since; count is how many there are
+abbrev pub MayKeepOld : ℕ → Serving → Type 0
+MayKeepOld count s = IsSome s.frees_at ⊎ (s.publications ≢ count)
 
 -- nobody's place is a newcomer's at this moment: each connection is busy, or it is the only one, which never loses its own
 abbrev pub NobodyYields : ℕ → Serving → Type 0
@@ -75,10 +84,11 @@ IsLookedAt now s moment =
     ⊎ TriesAt (limits_of s).patience (places_of s) (Some moment)))
     ⊎ (((s.out_of_descriptors ≡ true) ⊎ (s.is_barred ≡ true)) × (moment ≡ min (now + 1000) (2 ^ 64 - 1))))
 
--- it is waited until the first drain ends, or a newcomer that waits is looked at again
+-- it is waited until the first drain ends, a connection that keeps bytes of a replaced file will have made no progress for as long as the
+-- patience, or a newcomer that waits is looked at again
 abbrev pub IsWaitedFor : ℕ → Serving → Duration → Type 0
 IsWaitedFor now s wait =
-    (moment : ℕ) × (IsSomeAnd (slice_get s.drains.items 0) (λ drain. drain.ends ≡ moment) ⊎ IsLookedAt now s moment)
+    (moment : ℕ) × (IsSomeAnd (slice_get s.drains.items 0) (λ drain. drain.ends ≡ moment) ⊎ ((frees_of s ≡ Some moment) ⊎ IsLookedAt now s moment))
     × (as_nanos wait ≡ (moment - now) * 1000000)
 
 -- a connection that had a place has it as it was, unless a newcomer may take it at this moment

@@ -3,11 +3,12 @@ ghost use Rattle.std.specs.Prelude.{◌≡◌, ◌≤◌, IfErr, IfOk, IfSome, O
 ghost use Rattle.std.specs.IoError.{error_kind};
 ghost use Rattle.std.specs.declared.io.ErrorKind.TheVariants.{OutOfMemory};
 ghost use Rattle.cog_server.specs.Received.{after_read};
+ghost use Rattle.cog_server.specs.Service.{service_of};
 ghost use Rattle.cog_server.specs.Status.{room_of};
 ghost use Rattle.server_connections.specs.Table.{Changes, GoesOnAt, timed_after_write, timed_at};
 ghost use Rattle.server_sockets.specs.Turns.{KeepsPlaces};
 
-use cog_server::Server;
+use cog_server::Service;
 use http_range::Memory;
 use mio::net::TcpStream;
 use server_connections::Connections;
@@ -110,17 +111,17 @@ pub fn read_some(
 pub fn answer(
     connections: &mut Connections,
     number: u64,
-    server: &Server,
+    service: &Service<'_>,
     now: u64,
 ) -> io::Result<Option<u16>>
-    ensures ok { IfOk result (GoesOnAt server.now.catalogue number now (timed_at number connections.old.table.entries)
+    ensures ok { IfOk result (GoesOnAt (service_of service.now) number now (timed_at number connections.old.table.entries)
         connections.old.table.entries connections.new.table.entries) }
     ensures err { OnErr result (Changes number (λ p. p) connections.old.table.entries connections.new.table.entries) }
     // Only memory may be short.
     ensures memory { IfErr result (λ error. error_kind error ≡ OutOfMemory) }
     ensures kept { KeepsPlaces number connections.old connections.new }
 {
-    match connections.go_on(number, server, now) {
+    match connections.go_on(number, service, now) {
         Ok(status) => Ok(status),
         Err(error) => Err(memory(error)),
     }

@@ -3,7 +3,7 @@ ghost use Rattle.server_sockets.specs.Going.{RunsGoOn};
 
 use cog_server::law_runs_are_answered;
 
-/// States that each connection is answered as if it were alone, whatever turns it has, and whatever catalogues are served meanwhile.
+/// States that each connection is answered as if it were alone, whatever turns it has, and whatever is published or added meanwhile.
 pub fn law_runs_go_on()
     ensures { RunsGoOn }
 {

@@ -2,10 +2,11 @@
 ghost use Rattle.std.specs.Prelude.{◌≡◌, ◌≢◌, ◌⊎◌, ◌↔◌, ◌+◌, ◌<◌, ◌≤◌, ◌^◌, ℕ, [], IfOk, IfSome, IsSome, IsSomeAnd, IsTrue, None, OnErr, OnOk, Some, false, length, nat_eq, true};
 ghost use Rattle.std.specs.Map.{remove_entry};
 ghost use Rattle.std.specs.NonZero.{non_zero_usize_get};
-ghost use Rattle.http_range.specs.Book.{Catalogue};
+ghost use Rattle.cog_server.specs.Additions.{ServiceState};
+ghost use Rattle.cog_server.specs.Service.{service_of};
 ghost use Rattle.server_connections.specs.Table.{OthersStay, timed_at};
 ghost use Rattle.server_connections.specs.declared.timed.Timed.{Timed};
-ghost use Rattle.server_connections.specs.Yielding.{IsUntried, MayYield, TriesAt, WakesAt, Yields};
+ghost use Rattle.server_connections.specs.Yielding.{FreesAt, IsFirstOverdue, IsUntried, MayYield, TriesAt, WakesAt, Yields, is_overdue};
 ghost use Rattle.server_sockets.specs.Going.{AllWentOn};
 ghost use Rattle.server_sockets.specs.Turns.{HasEndedAt, HasStartedAt, HaveSockets, IsDrainedAt, IsOpenAt, IsTriedAt, KeepsPlaces};
 ghost use Rattle.server_sockets.specs.declared.turn.Turn.TheVariants.{Ended, GoesOn, Waits};
@@ -13,7 +14,7 @@ ghost use Rattle.server_sockets.specs.declared.turn.Turn.TheVariants.{Ended, Goe
 use crate::answer_log::{AnswerLog, ConnectionLog, UnansweredInput};
 use crate::connection_socket::ConnectionSocket;
 use crate::turn::{Turn, drain_turn, serve_turn, try_turn};
-use cog_server::Server;
+use cog_server::{Server, Service};
 use http_range::Memory;
 use mio::net::TcpStream;
 use mio::{Interest, Poll, Token};
@@ -134,6 +135,23 @@ impl OpenConnections {
         } else {
             self.connections.tries_at(patience)
         }
+    }
+
+    /// Returns the number of the connection that loses its slot at moment `now`, whether another one waits or not, or `None`.
+    pub fn overdue(&self, server: &Server, now: u64, patience: u64) -> Option<u64>
+        ensures overdue { IsFirstOverdue server.now.catalogue now patience self.now.connections.table.entries result }
+        ensures found { IfSome result (λ k. IsSomeAnd (timed_at k self.now.connections.table.entries)
+            (λ p. is_overdue server.now.catalogue now patience p ≡ true)) }
+    {
+        self.connections.overdue(server, now, patience)
+    }
+
+    /// Returns the first moment at which a connection that keeps bytes of a replaced file will have made no progress for `patience`
+    /// milliseconds.
+    pub fn frees_at(&self, server: &Server, patience: u64) -> Option<u64>
+        ensures { FreesAt server.now.catalogue patience self.now.connections.table.entries result }
+    {
+        self.connections.frees_at(server, patience)
     }
 
     /// Adds the connection of `stream`, which starts at moment `now`. Where the system or memory has no room for it, it ends at once.
@@ -260,7 +278,7 @@ impl OpenConnections {
     #[tactic(auto, using(crate::proofs::GoingLemmas::all_still, crate::proofs::GoingLemmas::none_tried))]
     pub fn try_socket(&mut self, number: u64, now: u64) -> Turn
         ensures kept { KeepsPlaces number self.old.connections self.new.connections }
-        ensures went { (catalogue : Catalogue) → AllWentOn catalogue now self.old.connections.table.entries
+        ensures went { (service : ServiceState) → AllWentOn service now self.old.connections.table.entries
             self.new.connections.table.entries }
         ensures tried { IsTriedAt now number self.new.connections.table.entries }
         ensures counted { self.new.ended ≡ self.old.ended }
@@ -277,13 +295,13 @@ impl OpenConnections {
     pub fn turn<A: AnswerLog>(
         &mut self,
         number: u64,
-        server: &Server,
+        service: &Service<'_>,
         buffer: &mut [u8],
         now: u64,
         log: &mut A,
     ) -> Turn
         ensures kept { KeepsPlaces number self.old.connections self.new.connections }
-        ensures went { AllWentOn server.now.catalogue now self.old.connections.table.entries self.new.connections.table.entries }
+        ensures went { AllWentOn (service_of service.now) now self.old.connections.table.entries self.new.connections.table.entries }
         ensures ended { result ≡ Ended → HasEndedAt number self.new.connections.table.entries
             ⊎ (DrainsAt number self.old × IsDrainedAt number self.new.connections.table.entries) }
         // One that has ended, or is read to its end, neither goes on nor waits.
@@ -306,6 +324,13 @@ impl OpenConnections {
         }
         let unanswered = &mut peer.unanswered;
         let mut log = ConnectionLog { unanswered, log };
-        serve_turn(&mut self.connections, socket, server, buffer, now, &mut log)
+        serve_turn(
+            &mut self.connections,
+            socket,
+            service,
+            buffer,
+            now,
+            &mut log,
+        )
     }
 }

@@ -3,16 +3,19 @@ ghost use Rattle.std.specs.Prelude.{◌≡◌, ◌≢◌, ◌+◌, ◌-◌, ◌*
 ghost use Rattle.std.specs.IoError.{error_kind};
 ghost use Rattle.std.specs.NonZero.{non_zero_usize_get};
 ghost use Rattle.std.specs.declared.io.ErrorKind.TheVariants.{WouldBlock};
+ghost use Rattle.cog_server.specs.Service.{service_of};
 ghost use Rattle.server_connections.specs.Table.{OthersStay, Table, timed_at};
+ghost use Rattle.server_connections.specs.Yielding.{IsFirstOverdue};
 ghost use Rattle.mio.specs.Events.{capacity};
 ghost use Rattle.server_sockets.specs.Draining.{IsReadyAt, drain_of};
 ghost use Rattle.server_sockets.specs.Going.{AllWentOn};
-ghost use Rattle.server_sockets.specs.Places.{AllStart, IsLookedAt, IsWaitedFor, HasNoPlace, KeepsAll, KeepsBusy, NoneChanges, NobodyComes, NobodyYields, Rests, StayOrStart, accepted_of, ended_of, limits_of, next_of, places_of, room_of, WakesBy, WakesIn};
+ghost use Rattle.server_sockets.specs.Places.{AllStart, IsLookedAt, IsWaitedFor, HasNoPlace, KeepsAll, KeepsBusy, MayKeepOld, NoneChanges, NobodyComes, NobodyYields, Rests, StayOrStart, accepted_of, ended_of, limits_of, next_of, places_of, room_of, WakesBy, WakesIn};
 ghost use Rattle.server_sockets.specs.Refusals.{HasNoRoom, IsBarred, IsLasting, IsOfAsking, IsPassing};
 ghost use Rattle.server_sockets.specs.Turns.{GivesPlace, HasStartedAt, TriesOne};
 ghost use Rattle.server_sockets.specs.declared.refusal.AcceptError.TheVariants.{Accept};
 ghost use Rattle.server_sockets.specs.declared.turn.Turn.TheVariants.{Ended, Failed, GoesOn, Waits};
 
+mod freeing;
 mod trying;
 mod waiting;
 
@@ -22,7 +25,7 @@ use crate::events::{LISTENER, note};
 use crate::open_connections::OpenConnections;
 use crate::refusal::{AcceptError, Refusal, refusal_of};
 use crate::turn::Turn;
-use cog_server::Server;
+use cog_server::Service;
 use http_range::{MESSAGE_LIMIT, Memory};
 use mio::net::{TcpListener, TcpStream};
 use mio::{Events, Interest, Poll};
@@ -66,6 +69,11 @@ pub struct Serving {
     /// Whether the system barred a connection, since one was last accepted or none waited.
     is_barred: bool,
     accepted: u32,
+    /// The first moment at which a connection that keeps bytes of a replaced file will have made no progress for the patience. `None` where
+    /// no connection kept such bytes when that was last looked for.
+    frees_at: Option<u64>,
+    /// How many publications there were then.
+    publications: u32,
 }
 
 impl Serving {
@@ -106,6 +114,8 @@ impl Serving {
             out_of_descriptors: false,
             is_barred: false,
             accepted: 0,
+            frees_at: None,
+            publications: 0,
         })
     }
 
@@ -161,29 +171,37 @@ impl Serving {
     }
 
     /// Gives each connection that is ready its turn at moment `now`, and closes those whose drain ends. Each answer is logged in `log`.
-    /// While another connection may wait for a slot, a socket that is to be tried is tried.
+    /// While another connection may wait for a slot, or one may keep bytes of a replaced file, a socket that is to be tried is tried. One
+    /// that keeps such bytes without progress for the patience is closed.
     #[tactic(auto, using(crate::proofs::PlacesLemmas::taking_turns))]
-    pub fn turns<A: AnswerLog>(&mut self, server: &Server, now: u64, log: &mut A)
+    pub fn turns<A: AnswerLog>(&mut self, service: &Service<'_>, now: u64, log: &mut A)
         ensures nobody { NobodyComes self.old self.new }
-        // Each connection that has a slot had it, and went on from there by events of its own. Each answer is from this catalogue.
-        ensures went { AllWentOn server.now.catalogue now (places_of self.old) (places_of self.new) }
+        // Each connection that has a slot had it, and went on from there by events of its own. Each answer is by this service.
+        ensures went { AllWentOn (service_of service.now) now (places_of self.old) (places_of self.new) }
         // The first drain that is left hasn't ended yet.
         ensures over { IfSome (slice_get self.new.drains.items 0) (λ drain. now < drain.ends) }
         // Of the sockets that are to be tried after these turns, the one that was tried the longest ago is tried.
         ensures tried { self.old.accept_pending ≡ true → accepted_of self.old < (limits_of self.old).connections → (turned : Table)
-            × AllWentOn server.now.catalogue now (places_of self.old) turned
+            × AllWentOn (service_of service.now) now (places_of self.old) turned
             × TriesOne now (limits_of self.old).patience turned (places_of self.new) }
+        // No connection is left that keeps bytes of a replaced file, has made no progress for the patience, and whose socket takes none.
+        ensures freed { MayKeepOld service.now.server.now.count self.old
+            → IsFirstOverdue (service_of service.now).catalogue now (limits_of self.old).patience (places_of self.new) None }
     {
-        let is_awaited = self.is_awaited();
+        let may_keep_old = self.may_keep_old(service.server);
+        let is_due = self.is_due(may_keep_old);
         for _ in 0..self.ready.len() {
             if let Some(number) = self.ready.pop_front() {
-                self.turn(number, server, now, log);
+                self.turn(number, service, now, log);
             }
         }
-        if is_awaited {
+        if is_due {
             self.try_socket(now);
         }
         self.end_drains(now);
+        if may_keep_old {
+            self.free_old_files(service.server, now);
+        }
     }
 
     /// Waits until a connection is ready, one is in the listen backlog, or a moment comes at which something is due.
@@ -385,13 +403,15 @@ impl Serving {
 
     /// Gives connection `number` its turn at moment `now`, and closes it where memory is short.
     #[tactic(auto, using(crate::proofs::PlacesLemmas::nobody_yet, crate::proofs::PlacesLemmas::went_still))]
-    fn turn<A: AnswerLog>(&mut self, number: u64, server: &Server, now: u64, log: &mut A)
+    fn turn<A: AnswerLog>(&mut self, number: u64, service: &Service<'_>, now: u64, log: &mut A)
         ensures others { OthersStay number (places_of self.old) (places_of self.new) }
         ensures nobody { NobodyComes self.old self.new }
-        ensures went { AllWentOn server.now.catalogue now (places_of self.old) (places_of self.new) }
+        ensures went { AllWentOn (service_of service.now) now (places_of self.old) (places_of self.new) }
     {
         let buffer = &mut self.buffer;
-        let turn = self.open_connections.turn(number, server, buffer, now, log);
+        let turn = self
+            .open_connections
+            .turn(number, service, buffer, now, log);
         if self.after(number, turn, now).is_err() {
             self.open_connections.close(number);
         }

@@ -1,8 +1,9 @@
 //! A connection's turn. It is served until its socket would block, and no longer than is fair to others.
 ghost use Rattle.std.specs.Prelude.{◌≡◌, ◌≢◌, ◌<◌, ◌↔◌, ℕ, false, length, IfErr, IfOk, IsSome, IsSomeAnd, IsTrue, None, Some};
 ghost use Rattle.std.specs.IoError.{error_kind};
+ghost use Rattle.cog_server.specs.Service.{service_of};
 ghost use Rattle.server_connections.specs.Table.{timed_at};
-ghost use Rattle.http_range.specs.Book.{Catalogue};
+ghost use Rattle.cog_server.specs.Additions.{ServiceState};
 ghost use Rattle.std.specs.declared.io.ErrorKind.TheVariants.{Interrupted, OutOfMemory, WouldBlock};
 ghost use Rattle.server_sockets.specs.Going.{AllWentOn};
 ghost use Rattle.server_sockets.specs.Turns.{HasEndedAt, IsDrainedAt, IsOpenAt, IsTriedAt, KeepsPlaces};
@@ -10,7 +11,7 @@ ghost use Rattle.server_sockets.specs.declared.turn.Turn.TheVariants.{Ended, Goe
 
 use crate::answer_log::{AnswerLog, ConnectionLog};
 use crate::connection_socket::{ConnectionSocket, answer, read_some, write_some};
-use cog_server::Server;
+use cog_server::Service;
 use server_connections::Connections;
 use std::io;
 use std::io::ErrorKind;
@@ -93,13 +94,13 @@ struct Bounds {
 fn step<A: AnswerLog>(
     connections: &mut Connections,
     socket: &ConnectionSocket,
-    server: &Server,
+    service: &Service<'_>,
     buffer: &mut [u8],
     bounds: Bounds,
     log: &mut ConnectionLog<'_, A>,
 ) -> io::Result<Option<usize>>
     ensures kept { KeepsPlaces socket.now.number connections.old connections.new }
-    ensures went { AllWentOn server.now.catalogue bounds.now connections.old.table.entries connections.new.table.entries }
+    ensures went { AllWentOn (service_of service.now) bounds.now connections.old.table.entries connections.new.table.entries }
     ensures ended { IfOk result (λ count. count ≡ None → HasEndedAt socket.now.number connections.new.table.entries) }
     // Something is done only on a connection that hasn't ended, and its socket blocks, or fails, only where it still hasn't.
     ensures open { IfOk result (λ count. IsSome count → IsOpenAt socket.now.number connections.old.table.entries) }
@@ -112,7 +113,7 @@ fn step<A: AnswerLog>(
     if is_waiting(connections, number) {
         return Ok(Some(write_some(connections, socket, most, now)?));
     }
-    if let Some(status) = answer(connections, number, server, now)? {
+    if let Some(status) = answer(connections, number, service, now)? {
         log.answered(connections, number, status);
         return Ok(Some(0));
     }
@@ -129,13 +130,13 @@ fn step<A: AnswerLog>(
 pub fn serve_turn<A: AnswerLog>(
     connections: &mut Connections,
     socket: &ConnectionSocket,
-    server: &Server,
+    service: &Service<'_>,
     buffer: &mut [u8],
     now: u64,
     log: &mut ConnectionLog<'_, A>,
 ) -> Turn
     ensures kept { KeepsPlaces socket.now.number connections.old connections.new }
-    ensures went { AllWentOn server.now.catalogue now connections.old.table.entries connections.new.table.entries }
+    ensures went { AllWentOn (service_of service.now) now connections.old.table.entries connections.new.table.entries }
     ensures ended { result ≡ Ended → HasEndedAt socket.now.number connections.new.table.entries }
     // One that has ended neither goes on nor waits: it ends in the turn in which the last byte of its last answer is taken.
     ensures goes_on { result ≡ GoesOn → IsOpenAt socket.now.number connections.old.table.entries
@@ -147,7 +148,7 @@ pub fn serve_turn<A: AnswerLog>(
     let mut most = WRITE_LIMIT;
     for _ in 0..STEP_LIMIT {
         let bounds = Bounds { most, now };
-        match step(connections, socket, server, buffer, bounds, log) {
+        match step(connections, socket, service, buffer, bounds, log) {
             Ok(Some(n)) => most = most.saturating_sub(n),
             Ok(None) => return Turn::Ended,
             Err(error) => {
@@ -172,8 +173,8 @@ pub fn serve_turn<A: AnswerLog>(
 #[tactic(auto, using(crate::proofs::GoingLemmas::tries))]
 pub fn try_turn(connections: &mut Connections, socket: &ConnectionSocket, now: u64) -> Turn
     ensures kept { KeepsPlaces socket.now.number connections.old connections.new }
-    // Nothing is answered, from whatever catalogue.
-    ensures went { (catalogue : Catalogue) → AllWentOn catalogue now connections.old.table.entries connections.new.table.entries }
+    // Nothing is answered, by whatever service.
+    ensures went { (service : ServiceState) → AllWentOn service now connections.old.table.entries connections.new.table.entries }
     ensures tried { IsTriedAt now socket.now.number connections.new.table.entries }
     ensures ended { result ≡ Ended → HasEndedAt socket.now.number connections.new.table.entries }
 {
@@ -192,8 +193,8 @@ pub fn drain_turn(
     buffer: &mut [u8],
 ) -> Turn
     ensures kept { KeepsPlaces socket.now.number connections.old connections.new }
-    // Nothing is answered, from whatever catalogue.
-    ensures went { (catalogue : Catalogue) (now : ℕ) → AllWentOn catalogue now connections.old.table.entries connections.new.table.entries }
+    // Nothing is answered, by whatever service.
+    ensures went { (service : ServiceState) (now : ℕ) → AllWentOn service now connections.old.table.entries connections.new.table.entries }
     ensures ended { result ≡ Ended → IsDrainedAt socket.now.number connections.new.table.entries }
     // Where nothing more may come it neither goes on nor waits.
     ensures goes_on { result ≡ GoesOn → ¬ IsDrainedAt socket.now.number connections.old.table.entries }

@@ -1,7 +1,7 @@
 //! Where memory is refused, that is what is told: this connection and the other are as they were, and the same call succeeds later.
 use super::driving::{ASKS_A, ASKS_B, give_at, take_at};
 use assertion_support::expect_eq;
-use cog_server::{PublishError, Server};
+use cog_server::{PublishError, Server, Service};
 use http_range::Memory;
 use server_connections::Connections;
 use std::alloc::Global;
@@ -66,11 +66,11 @@ fn go_on(
     server: &Server,
 ) -> Result<Option<u16>, Fail> {
     let before = state(connections);
-    match connections.go_on(number, server, 0) {
+    match connections.go_on(number, &Service::plain(server), 0) {
         Ok(status) => Ok(status),
         Err(Memory) => {
             expect_eq!(rt; state(connections), before);
-            Ok(connections.go_on(number, server, 0)?)
+            Ok(connections.go_on(number, &Service::plain(server), 0)?)
         }
     }
 }

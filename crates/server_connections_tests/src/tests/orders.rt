@@ -1,7 +1,7 @@
 //! Two connections, in every order of what happens to them: each is answered as if it were alone.
 use super::driving::{ASKS_A, ASKS_B, CLOSES, give_at, server_of_two, take_at};
 use assertion_support::expect_eq;
-use cog_server::{AfterBytes, AfterPieces, ScriptedInlet, ScriptedOutlet, Server};
+use cog_server::{AfterBytes, AfterPieces, ScriptedInlet, ScriptedOutlet, Server, Service};
 use server_connections::Connections;
 use std::alloc::Global;
 use std::num::NonZeroUsize;
@@ -42,7 +42,7 @@ fn step(
             give_at(connections, number, first)?;
         }
         1 | 4 => {
-            connections.go_on(number, server, 0)?;
+            connections.go_on(number, &Service::plain(server), 0)?;
         }
         2 => {
             take_at(connections, number, 20, 0, text)?;

@@ -1,6 +1,6 @@
 //! Fifty connections at random, with publications between, beside the plain answer to each message.
 use super::driving::{ASKS_A, ASKS_B, give_at, publish, server_of_two, take_at};
-use cog_server::Server;
+use cog_server::{Server, Service};
 use fixtures_support::Numbers;
 use server_connections::Connections;
 use std::alloc::Global;
@@ -76,7 +76,7 @@ fn go_on(
     number: u64,
     peer: &mut Peer,
 ) -> Result<(), Fail> {
-    if connections.go_on(number, server, 0)?.is_some() {
+    if connections.go_on(number, &Service::plain(server), 0)?.is_some() {
         let answer = server.answer(peer.asks)?;
         peer.want.extend_from_slice(&answer.text)?;
     }

@@ -1,7 +1,7 @@
 //! Whose place a newcomer takes.
 use super::driving::{ASKS_A, CLOSES, give_at, server_of_two, take_at};
 use assertion_support::expect_eq;
-use cog_server::Server;
+use cog_server::{Server, Service};
 use server_connections::Connections;
 use std::alloc::Global;
 use std::num::NonZeroUsize;
@@ -45,11 +45,11 @@ fn begin(
         }
         Doing::Answered => {
             give_at(connections, number, ASKS_A)?;
-            connections.go_on(number, server, at)?;
+            connections.go_on(number, &Service::plain(server), at)?;
         }
         Doing::Draining => {
             give_at(connections, number, CLOSES)?;
-            connections.go_on(number, server, at)?;
+            connections.go_on(number, &Service::plain(server), at)?;
             take_at(connections, number, usize::MAX, at, &mut Vec::new(alloc))?;
         }
     }

@@ -1,6 +1,6 @@
 //! The log of `cogserve`: a line for each answer, why a file isn't taken anew, and where it listens.
 use super::lines::{connect, limits};
-use cog_server::Server;
+use cog_server::{Additions, Server, Service};
 use disk_files::Watched;
 use fixtures_support::f1;
 use programs_support::Capture;
@@ -31,7 +31,7 @@ where
     let listener = TcpListener::bind(rt, "127.0.0.1:0")?;
     let _client = connect(rt, listener.local_addr()?, text)?;
     let capture = Capture::new(rt);
-    if serve_connections(&mut logged(&capture), server, files, listener, limits(1)).is_err() {
+    if serve_connections(&mut logged(&capture), server, files, listener, limits(1), Additions::nothing()).is_err() {
         return Err(Fail::new("a fault"));
     }
     let (_, err) = capture.into_texts();
@@ -79,10 +79,10 @@ fn tells_the_whole_of_a_request_that_comes_in_pieces(rt: HostRuntime) -> Result<
         return Err(Fail::new("not accepted"));
     }
     serving.wait(0)?;
-    serving.turns(&server, 0, &mut log);
+    serving.turns(&Service::plain(&server), 0, &mut log);
     client.write_all(b"ge: bytes=1-4\r\n\r\n")?;
     serving.wait(1)?;
-    serving.turns(&server, 1, &mut log);
+    serving.turns(&Service::plain(&server), 1, &mut log);
     assert_eq!(rt;
         str::from_utf8(&capture.into_texts().1),
         Ok("cogserve: connection 1: GET /a bytes=1-4: 206, 4 bytes\n")

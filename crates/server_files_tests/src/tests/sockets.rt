@@ -1,6 +1,6 @@
 //! Who has a place at a server of few places, and who gets one; each moment is handed in.
 use assertion_support::expect_eq;
-use cog_server::Server;
+use cog_server::{Server, Service};
 use fixtures_support::f1;
 use server_sockets::{Limits, NoLog, Serving};
 use std::io::{Read, Write};
@@ -55,7 +55,7 @@ fn turn(serving: &mut Serving, server: &Server, now: u64) -> Result<(u32, u32), 
     if accepted > 0 {
         serving.wait(now)?;
     }
-    serving.turns(server, now, &mut NoLog);
+    serving.turns(&Service::plain(server), now, &mut NoLog);
     Ok((accepted, serving.ended()))
 }
 
@@ -88,7 +88,7 @@ fn expect_answered<R: Abort>(
     now: u64,
 ) -> Result<(), Fail> {
     serving.wait(now)?;
-    serving.turns(server, now, &mut NoLog);
+    serving.turns(&Service::plain(server), now, &mut NoLog);
     read_answer(rt, client)
 }
 
@@ -180,8 +180,8 @@ fn expect_instead_of_the_first<R: Abort>(
     newcomer: &mut TcpStream,
 ) -> Result<(), Fail> {
     serving.wait(3_600_001)?;
-    serving.turns(server, 3_600_001, &mut NoLog);
-    serving.turns(server, 3_600_001, &mut NoLog);
+    serving.turns(&Service::plain(server), 3_600_001, &mut NoLog);
+    serving.turns(&Service::plain(server), 3_600_001, &mut NoLog);
     expect_turn(rt, serving, server, 3_600_001, (1, 1))?;
     expect_answer(rt, newcomer, serving, server, 3_600_001)
 }
@@ -193,10 +193,10 @@ fn drains_for_two_seconds(rt: HostRuntime) -> Result<(), Fail> {
     let mut client = connect(&rt, address, "no head\r\n\r\n")?;
     expect_turn(&rt, &mut serving, &server, 5, (1, 1))?;
     client.write_all(b"more")?;
-    serving.turns(&server, 2_004, &mut NoLog);
+    serving.turns(&Service::plain(&server), 2_004, &mut NoLog);
     let mut next = connect(&rt, address, "")?;
     expect_one_more(&rt, &mut serving, &server)?;
-    serving.turns(&server, 2_005, &mut NoLog);
+    serving.turns(&Service::plain(&server), 2_005, &mut NoLog);
     let answer = std::io::read_to_string(rt.alloc(), client)?;
     assert!(rt; answer.as_str().starts_with("HTTP/1.1 400 Bad Request\r\n"));
     expect_answer(&rt, &mut next, &mut serving, &server, 2_005)

@@ -1,7 +1,7 @@
 //! Sockets that are tried while another connection waits for a slot. A system may call a socket writable late, so that its progress isn't
 //! seen.
 ghost use Rattle.std.specs.Prelude.{◌≡◌};
-ghost use Rattle.http_range.specs.Book.{Catalogue};
+ghost use Rattle.cog_server.specs.Additions.{ServiceState};
 ghost use Rattle.server_sockets.specs.Going.{AllWentOn};
 ghost use Rattle.server_sockets.specs.Places.{NobodyComes, limits_of, places_of};
 ghost use Rattle.server_sockets.specs.Turns.{TriesOne};
@@ -13,8 +13,8 @@ impl Serving {
     #[tactic(auto, using(crate::proofs::PlacesLemmas::trying))]
     pub(crate) fn try_socket(&mut self, now: u64)
         ensures nobody { NobodyComes self.old self.new }
-        // Nothing is answered, from whatever catalogue.
-        ensures went { (catalogue : Catalogue) → AllWentOn catalogue now (places_of self.old) (places_of self.new) }
+        // Nothing is answered, by whatever service.
+        ensures went { (service : ServiceState) → AllWentOn service now (places_of self.old) (places_of self.new) }
         ensures tried { TriesOne now (limits_of self.old).patience (places_of self.old) (places_of self.new) }
     {
         let Some(number) = self.open_connections.untried(now, self.limits.patience) else {

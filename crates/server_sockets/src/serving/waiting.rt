@@ -1,7 +1,7 @@
 //! How long a server's sockets wait.
 ghost use Rattle.std.specs.Prelude.{◌≡◌, ◌≢◌, ◌+◌, ◌-◌, ◌*◌, ◌<◌, ◌≤◌, ◌⊎◌, [], IfSome, IsSomeAnd, None, false, slice_get, true};
 ghost use Rattle.std.specs.Duration.{as_nanos};
-ghost use Rattle.server_sockets.specs.Places.{IsLookedAt, IsWaitedFor, accepted_of, limits_of, room_of, TriesBy, TriesIn, WakesBy, WakesIn};
+ghost use Rattle.server_sockets.specs.Places.{IsLookedAt, IsWaitedFor, accepted_of, frees_of, limits_of, room_of, TriesBy, TriesIn, WakesBy, WakesIn};
 
 use crate::moments::earlier;
 use crate::serving::Serving;
@@ -43,8 +43,8 @@ impl Serving {
         earlier(place, again)
     }
 
-    /// Returns how long to wait from moment `now` on: until a drain ends, or a connection in the listen backlog is tried again. Returns
-    /// `None` where the wait has no limit.
+    /// Returns how long to wait from moment `now` on. It is until a drain ends, a connection has kept bytes of a replaced file for the
+    /// patience, or one in the listen backlog is tried again. Returns `None` where the wait has no limit.
     pub(crate) fn timeout(&self, now: u64) -> Option<Duration>
         ensures ready { self.now.ready.items ≢ [] → IsSomeAnd result (λ wait. as_nanos wait ≡ 0) }
         ensures drain { IfSome (slice_get self.now.drains.items 0) (λ drain.
@@ -55,9 +55,14 @@ impl Serving {
             → accepted_of self.now < (limits_of self.now).connections → room_of self.now ≢ 1 → WakesIn now self.now result }
         ensures tries { self.now.ready.items ≡ [] → self.now.is_barred ≡ false → self.now.accept_pending ≡ true
             → accepted_of self.now < (limits_of self.now).connections → room_of self.now ≢ 1 → TriesIn now self.now result }
-        // Where no connection is ready and none is in the backlog, the wait ends with the first drain. Without a drain it has no limit.
-        ensures idle { self.now.ready.items ≡ [] → self.now.drains.items ≡ [] → self.now.accept_pending ≡ false → result ≡ None }
-        ensures just { self.now.ready.items ≡ [] → self.now.accept_pending ≡ false → IfSome (slice_get self.now.drains.items 0) (λ drain.
+        // No connection keeps bytes of a replaced file unseen.
+        ensures frees { IfSome (frees_of self.now) (λ moment. IsSomeAnd result (λ wait. as_nanos wait ≤ (moment - now) * 1000000)) }
+        // Where no connection is ready, none is in the backlog, and none keeps bytes of a replaced file, the wait ends with the first
+        // drain. Without a drain it has no limit.
+        ensures idle { self.now.ready.items ≡ [] → self.now.drains.items ≡ [] → self.now.accept_pending ≡ false
+            → frees_of self.now ≡ None → result ≡ None }
+        ensures just { self.now.ready.items ≡ [] → self.now.accept_pending ≡ false → frees_of self.now ≡ None
+            → IfSome (slice_get self.now.drains.items 0) (λ drain.
             IsSomeAnd result (λ wait. as_nanos wait ≡ (drain.ends - now) * 1000000)) }
         // The wait ends for no other reason.
         ensures only { self.now.ready.items ≡ [] → IfSome result (IsWaitedFor now self.now) }
@@ -66,7 +71,8 @@ impl Serving {
             return Some(Duration::ZERO);
         }
         let drain = self.drains.front().map(|drain| drain.ends);
-        let moment = earlier(drain, self.looks_at(now))?;
+        let looks_at = earlier(self.frees_at, self.looks_at(now));
+        let moment = earlier(drain, looks_at)?;
         Some(Duration::from_millis(moment.saturating_sub(now)))
     }
 }

@@ -11,7 +11,7 @@ loop-entry-preserved-then-is_longer c =
     record {
       seen = seen ++ (k, p) ∷ [];
       all = goes_behind seen _ _ _ (k, p) c.loop-entry.invariant.all c.in-Some.ensures.steps;
-      finds = taken c.args.candidate seen k p c.since-moment.result c.loop-entry.found c.since-moment.ensures (sym c.passes.ensures ∙ c.if-passes.true) (sym c.is_longer.ensures ∙ c.if-is_longer.true)
+      finds = taken c.args.candidate.now seen k p c.since-moment.result c.loop-entry.found c.since-moment.ensures (sym c.passes.ensures ∙ c.if-passes.true) (sym c.is_longer.ensures ∙ c.if-is_longer.true)
           c.loop-entry.invariant.finds;
     }
 
@@ -24,9 +24,9 @@ loop-entry-preserved c =
       seen = seen ++ (k, p) ∷ [];
       all = goes_behind seen _ _ _ (k, p) c.loop-entry.invariant.all c.in-Some.ensures.steps;
       finds = elim c.else-passes.branch [
-        | else-passes-via-then-passes+else-is_longer w ↦ kept c.args.candidate seen k p c.since-moment.result c.loop-entry.found c.since-moment.ensures (sym w.is_longer.ensures ∙ w.if-is_longer.false)
+        | else-passes-via-then-passes+else-is_longer w ↦ kept c.args.candidate.now seen k p c.since-moment.result c.loop-entry.found c.since-moment.ensures (sym w.is_longer.ensures ∙ w.if-is_longer.false)
             c.loop-entry.invariant.finds
-        | else-passes-via-else-passes w ↦ passed_by c.args.candidate seen k p c.loop-entry.found (sym c.passes.ensures ∙ w.if-passes.false)
+        | else-passes-via-else-passes w ↦ passed_by c.args.candidate.now seen k p c.loop-entry.found (sym c.passes.ensures ∙ w.if-passes.false)
             c.loop-entry.invariant.finds
       ];
     }

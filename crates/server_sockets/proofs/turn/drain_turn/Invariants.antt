@@ -1,5 +1,5 @@
 use Rattle.std.specs.Prelude.{◌≡◌, ◌⊎◌, ℕ}
-use Rattle.http_range.specs.Book.{Catalogue}
+use Rattle.cog_server.specs.Additions.{ServiceState}
 use Rattle.server_sockets.specs.Going.{AllWentOn}
 use Rattle.server_sockets.specs.Turns.{IsDrainedAt, KeepsPlaces}
 use Rattle.server_sockets.proofs.turn.drain_turn.Given as goal
@@ -8,5 +8,5 @@ abbrev pub invariant-loop : goal.invariant-loop
 invariant-loop l = record {
   kept : KeepsPlaces l.socket.number l.fn.connections l.connections;
   comes : ((l.counter ≡ 0) × (l.connections ≡ l.fn.connections)) ⊎ (¬ IsDrainedAt l.socket.number l.fn.connections.table.entries);
-  went : (catalogue : Catalogue) (now : ℕ) → AllWentOn catalogue now l.fn.connections.table.entries l.connections.table.entries;
+  went : (service : ServiceState) (now : ℕ) → AllWentOn service now l.fn.connections.table.entries l.connections.table.entries;
 }

@@ -1,6 +1,6 @@
-use Rattle.std.proofs.Common.{◌≡◌, Some, ap, ◌∙◌, map, refl, subst, rules}
+use Rattle.std.proofs.Common.{◌≡◌, Some, ap, ◌∙◌, map, refl, rules}
 use Rattle.http_range.specs.Book.{Catalogue}
-use Rattle.http_range.specs.Response.{IsAnswer}
+use Rattle.http_range.specs.Response.{answer_by}
 use Rattle.cog_server.specs.Catalogue.{publication}
 use Rattle.cog_server.specs.Prepared.{response_of}
 use Rattle.cog_server.specs.Server.{ServerState}
@@ -14,7 +14,11 @@ returns c =
     ap (map publication) c.deref.ensures.value ∙ ap (λ (s : ServerState). s.catalogue) c.self.view_is in
     record {
       response = response_of prepared;
-      answers = (let P : Catalogue → Type 0 = λ cs. IsAnswer cs c.args.message.now (response_of prepared) in subst P catalogue c.prepare-prepared.ensures);
+      answers = (
+        c.prepare-prepared.ensures.seen,
+        c.prepare-prepared.ensures.reads,
+        c.prepare-prepared.ensures.is ∙ ap (λ (cs : Catalogue). answer_by cs c.prepare-prepared.ensures.seen) catalogue,
+      );
       shows = record {
         text = search rules;
         close = refl;

@@ -1,5 +1,6 @@
 use Rattle.std.proofs.Common.{subst, sym}
 use Rattle.std.specs.Prelude.{IsSomeAnd}
+use Rattle.cog_server.specs.Service.{service_of}
 use Rattle.cog_server.specs.Status.{Rests}
 use Rattle.server_connections.specs.declared.timed.Timed.{Timed}
 use Rattle.server_connections.proofs.TableLemmas.{anyway, changes, falling_set, goes_on_at}
@@ -21,5 +22,5 @@ returns-in_err-status-clause-wants c =
 
 pub returns-clause-ok : goal.returns-clause-ok
 returns-clause-ok c =
-    goes_on_at c.args.server.now.catalogue c.args.number c.args.now c.args.self.now.table.entries c.in-Some.timed.now c.go_on.new.self c.in_ok-status.status
+    goes_on_at (service_of c.args.service.now) c.args.number c.args.now c.args.self.now.table.entries c.in-Some.timed.now c.go_on.new.self c.in_ok-status.status
     (sym c.in-Some.ensures.value) c.in_ok-status.ensures.ok c.in_ok-status.ensures.progress c.in_ok-status.ensures.tried

@@ -4,7 +4,7 @@ use Rattle.server_sockets.proofs.serving.Serving.try_socket.Goals as goal
 
 -- its socket was tried, and then it may have been closed
 pub returns-else-is_err-clause-went : goal.returns-else-is_err-clause-went
-returns-else-is_err-clause-went c = λ catalogue.
-    all_on catalogue c.args.now (places_of c.args.self.now) c.try_socket-turn.new.self.connections.table.entries (places_of c.after.new.self)
-    (c.try_socket-turn.ensures.went catalogue)
-    (all_still catalogue c.args.now c.try_socket-turn.new.self.connections.table.entries (places_of c.after.new.self) c.after.ensures.same)
+returns-else-is_err-clause-went c = λ service.
+    all_on service c.args.now (places_of c.args.self.now) c.try_socket-turn.new.self.connections.table.entries (places_of c.after.new.self)
+    (c.try_socket-turn.ensures.went service)
+    (all_still service c.args.now c.try_socket-turn.new.self.connections.table.entries (places_of c.after.new.self) c.after.ensures.same)

@@ -1,9 +1,8 @@
-use Rattle.std.proofs.Common.{ℕ, List, map, take, ap, ◌∙◌, subst, arith}
-use Rattle.http_range.specs.Book.{Catalogue}
-use Rattle.cog_server.specs.Catalogue.{publication}
+use Rattle.std.proofs.Common.{ℕ, List, take, ap, ◌∙◌, subst, arith}
+use Rattle.cog_server.specs.Service.{service_of}
 use Rattle.cog_server.specs.Outgoing.{IsOutgoing, waiting_of}
 use Rattle.cog_server.proofs.ConnectionLemmas.{answers_now, goes_last, goes_open, nothing_waits, one_more_answer}
-use Rattle.cog_server.proofs.connection.Connection.go_on.Goals as goal
+use Rattle.cog_server.proofs.connection.Connection.go_on_by.Goals as goal
 
 pub invariant_of-self-then-closes-2 : goal.invariant_of-self-then-closes-2
 invariant_of-self-then-closes-2 c =
@@ -20,10 +19,9 @@ pub returns-then-closes-2-clause-ok : goal.returns-then-closes-2-clause-ok
 returns-then-closes-2-clause-ok c =
     let s = c.self.inside in
     let held = c.whole.new.self.bytes.items in
-    let view = ap (λ (h : List ℕ). record { held = h; waiting = waiting_of s.outgoing; is_closed = s.closed; answers = s.answers; is_over = s.over; dropped = s.dropped }) c.whole.ensures.held ∙ c.self.view_is in
-    let out = subst (λ (k : Catalogue). IsOutgoing k (take c.in-Some.n held) c.answer.new.self c.in_ok-status.status) c.files.ensures
-    (subst (λ (bytes : List ℕ). IsOutgoing (map publication c.files.result.now) (take c.in-Some.n bytes) c.answer.new.self c.in_ok-status.status) c.deref.ensures.value c.in_ok-status.ensures.ok) in
-    goes_last c.args.server.now.catalogue held (waiting_of s.outgoing) s.closed s.over s.answers s.dropped c.in-Some.n c.args.self.now c.answer.new.self c.in_ok-status.status c.closes.result
+    let view = ap (λ (h : List ℕ). record { held = h; waiting = waiting_of s.outgoing; is_closed = s.closed; answers = s.answers; is_over = s.over; dropped = s.dropped; tag = s.outgoing.tag }) c.whole.ensures.held ∙ c.self.view_is in
+    let out = subst (λ (bytes : List ℕ). IsOutgoing (service_of c.args.service.now) s.answers (take c.in-Some.n bytes) c.answer.new.self c.in_ok-status.status) c.deref.ensures.value c.in_ok-status.ensures.ok in
+    goes_last (service_of c.args.service.now) held (waiting_of s.outgoing) s.closed s.over s.answers s.dropped c.in-Some.n s.outgoing.tag c.args.self.now c.answer.new.self c.in_ok-status.status c.closes.result
     view c.closes.ensures c.if-closes.false (nothing_waits (waiting_of s.outgoing) c.is_waiting.result c.is_waiting.ensures c.if-is_waiting.false) c.in-Some.ensures.found.0 c.in-Some.ensures.found.1 out
     c.closes-2.result c.closes-2.ensures c.if-closes-2.true c.skip.new.self.bytes.items c.skip-then-closes-2.new.self.bytes.items c.len-self-inside.result c.skip.ensures.left (omega (arith, c.len-self-inside.ensures, c.skip.new.self.bytes.ok.0)) c.skip-then-closes-2.ensures.left
 
@@ -31,10 +29,9 @@ pub returns-else-closes-2-clause-ok : goal.returns-else-closes-2-clause-ok
 returns-else-closes-2-clause-ok c =
     let s = c.self.inside in
     let held = c.whole.new.self.bytes.items in
-    let view = ap (λ (h : List ℕ). record { held = h; waiting = waiting_of s.outgoing; is_closed = s.closed; answers = s.answers; is_over = s.over; dropped = s.dropped }) c.whole.ensures.held ∙ c.self.view_is in
-    let out = subst (λ (k : Catalogue). IsOutgoing k (take c.in-Some.n held) c.answer.new.self c.in_ok-status.status) c.files.ensures
-    (subst (λ (bytes : List ℕ). IsOutgoing (map publication c.files.result.now) (take c.in-Some.n bytes) c.answer.new.self c.in_ok-status.status) c.deref.ensures.value c.in_ok-status.ensures.ok) in
-    goes_open c.args.server.now.catalogue held (waiting_of s.outgoing) s.closed s.over s.answers s.dropped c.in-Some.n c.args.self.now c.answer.new.self c.in_ok-status.status c.closes.result
+    let view = ap (λ (h : List ℕ). record { held = h; waiting = waiting_of s.outgoing; is_closed = s.closed; answers = s.answers; is_over = s.over; dropped = s.dropped; tag = s.outgoing.tag }) c.whole.ensures.held ∙ c.self.view_is in
+    let out = subst (λ (bytes : List ℕ). IsOutgoing (service_of c.args.service.now) s.answers (take c.in-Some.n bytes) c.answer.new.self c.in_ok-status.status) c.deref.ensures.value c.in_ok-status.ensures.ok in
+    goes_open (service_of c.args.service.now) held (waiting_of s.outgoing) s.closed s.over s.answers s.dropped c.in-Some.n s.outgoing.tag c.args.self.now c.answer.new.self c.in_ok-status.status c.closes.result
     view c.closes.ensures c.if-closes.false (nothing_waits (waiting_of s.outgoing) c.is_waiting.result c.is_waiting.ensures c.if-is_waiting.false) c.in-Some.ensures.found.0 c.in-Some.ensures.found.1 out
     c.closes-2.result c.closes-2.ensures c.if-closes-2.false c.skip.new.self.bytes.items c.skip.ensures.left
 
@@ -42,6 +39,6 @@ pub returns-in_err-status-clause-rests : goal.returns-in_err-status-clause-rests
 returns-in_err-status-clause-rests c rests =
     let s = c.self.inside in
     let held = c.whole.new.self.bytes.items in
-    let view = ap (λ (h : List ℕ). record { held = h; waiting = waiting_of s.outgoing; is_closed = s.closed; answers = s.answers; is_over = s.over; dropped = s.dropped }) c.whole.ensures.held ∙ c.self.view_is in
-    absurd (answers_now held (waiting_of s.outgoing) s.closed s.over s.answers s.dropped c.in-Some.n c.args.self.now c.closes.result
+    let view = ap (λ (h : List ℕ). record { held = h; waiting = waiting_of s.outgoing; is_closed = s.closed; answers = s.answers; is_over = s.over; dropped = s.dropped; tag = s.outgoing.tag }) c.whole.ensures.held ∙ c.self.view_is in
+    absurd (answers_now held (waiting_of s.outgoing) s.closed s.over s.answers s.dropped c.in-Some.n s.outgoing.tag c.args.self.now c.closes.result
     view c.closes.ensures c.if-closes.false (nothing_waits (waiting_of s.outgoing) c.is_waiting.result c.is_waiting.ensures c.if-is_waiting.false) c.in-Some.ensures.found.0 c.in-Some.ensures.found.1 rests)

@@ -1,0 +1,14 @@
+use Rattle.std.specs.Prelude.{◌≡◌, length}
+use Rattle.server_sockets.specs.Places.{NobodyComes, NoneChanges, limits_of, places_of}
+use Rattle.server_sockets.proofs.serving.Serving.free_old_files.Given as goal
+
+abbrev pub invariant-loop : goal.invariant-loop
+invariant-loop l = record {
+  nobody : NobodyComes l.fn.self l.self;
+  same : NoneChanges l.fn.self l.self;
+  drains : l.self.drains ≡ l.fn.self.drains;
+  limits : limits_of l.self ≡ limits_of l.fn.self;
+}
+
+abbrev pub decreases-loop : goal.decreases-loop
+decreases-loop l = length (places_of l.self)
