@@ -128,9 +128,10 @@ module _ (a : App) (alone : IsAlone a) (c : Command) (e : app_of c ≡ a) where
 
 abbrev rules : List Rule
 rules = option (codes "listen") ∷ option (codes "epoch") ∷ option (codes "connections") ∷ words (codes "files")
-    ∷ choice (codes "at-once") ∷ choice (codes "patience") ∷ flag (codes "log") ∷ []
+    ∷ choice (codes "at-once") ∷ choice (codes "patience") ∷ choice (codes "allow-origin") ∷ flag (codes "announce-last") ∷ choice (codes "verify")
+    ∷ flag (codes "log") ∷ []
 
-alone_at : (k : ℕ) (d : Rule) → k < 7 → is_alone (slice_index_or rules k d) ≡ true
+alone_at : (k : ℕ) (d : Rule) → k < 10 → is_alone (slice_index_or rules k d) ≡ true
 alone_at zero d low = refl
 alone_at (suc zero) d low = refl
 alone_at (suc (suc zero)) d low = refl
@@ -138,7 +139,10 @@ alone_at (suc (suc (suc zero))) d low = refl
 alone_at (suc (suc (suc (suc zero)))) d low = refl
 alone_at (suc (suc (suc (suc (suc zero))))) d low = refl
 alone_at (suc (suc (suc (suc (suc (suc zero)))))) d low = refl
-alone_at (suc (suc (suc (suc (suc (suc (suc k))))))) d low = absurd (omega arith)
+alone_at (suc (suc (suc (suc (suc (suc (suc zero))))))) d low = refl
+alone_at (suc (suc (suc (suc (suc (suc (suc (suc zero)))))))) d low = refl
+alone_at (suc (suc (suc (suc (suc (suc (suc (suc (suc zero))))))))) d low = refl
+alone_at (suc (suc (suc (suc (suc (suc (suc (suc (suc (suc k)))))))))) d low = absurd (omega arith)
 
 serve_alone : IsAlone serve_app
 unfolding serve_app
@@ -147,7 +151,7 @@ serve_alone = record { some = omega arith; rules = alone_at; plain = refl; stric
 option_needed : (name : List ℕ) → IsNeeded name (option name)
 option_needed name = record { id = refl; required = refl; action = refl; range = refl; alone = refl }
 
-only_listen : (j : ℕ) (d : Rule) → j < 7 → bytes_eq (slice_index_or rules j d).id (codes "listen") ≡ true → j ≡ 0
+only_listen : (j : ℕ) (d : Rule) → j < 10 → bytes_eq (slice_index_or rules j d).id (codes "listen") ≡ true → j ≡ 0
 only_listen zero d low same = refl
 only_listen (suc zero) d low same = absurd (true≢false (sym same))
 only_listen (suc (suc zero)) d low same = absurd (true≢false (sym same))
@@ -155,9 +159,12 @@ only_listen (suc (suc (suc zero))) d low same = absurd (true≢false (sym same))
 only_listen (suc (suc (suc (suc zero)))) d low same = absurd (true≢false (sym same))
 only_listen (suc (suc (suc (suc (suc zero))))) d low same = absurd (true≢false (sym same))
 only_listen (suc (suc (suc (suc (suc (suc zero)))))) d low same = absurd (true≢false (sym same))
-only_listen (suc (suc (suc (suc (suc (suc (suc k))))))) d low same = absurd (omega arith)
+only_listen (suc (suc (suc (suc (suc (suc (suc zero))))))) d low same = absurd (true≢false (sym same))
+only_listen (suc (suc (suc (suc (suc (suc (suc (suc zero)))))))) d low same = absurd (true≢false (sym same))
+only_listen (suc (suc (suc (suc (suc (suc (suc (suc (suc zero))))))))) d low same = absurd (true≢false (sym same))
+only_listen (suc (suc (suc (suc (suc (suc (suc (suc (suc (suc k)))))))))) d low same = absurd (omega arith)
 
-only_epoch : (j : ℕ) (d : Rule) → j < 7 → bytes_eq (slice_index_or rules j d).id (codes "epoch") ≡ true → j ≡ 1
+only_epoch : (j : ℕ) (d : Rule) → j < 10 → bytes_eq (slice_index_or rules j d).id (codes "epoch") ≡ true → j ≡ 1
 only_epoch zero d low same = absurd (true≢false (sym same))
 only_epoch (suc zero) d low same = refl
 only_epoch (suc (suc zero)) d low same = absurd (true≢false (sym same))
@@ -165,9 +172,12 @@ only_epoch (suc (suc (suc zero))) d low same = absurd (true≢false (sym same))
 only_epoch (suc (suc (suc (suc zero)))) d low same = absurd (true≢false (sym same))
 only_epoch (suc (suc (suc (suc (suc zero))))) d low same = absurd (true≢false (sym same))
 only_epoch (suc (suc (suc (suc (suc (suc zero)))))) d low same = absurd (true≢false (sym same))
-only_epoch (suc (suc (suc (suc (suc (suc (suc k))))))) d low same = absurd (omega arith)
+only_epoch (suc (suc (suc (suc (suc (suc (suc zero))))))) d low same = absurd (true≢false (sym same))
+only_epoch (suc (suc (suc (suc (suc (suc (suc (suc zero)))))))) d low same = absurd (true≢false (sym same))
+only_epoch (suc (suc (suc (suc (suc (suc (suc (suc (suc zero))))))))) d low same = absurd (true≢false (sym same))
+only_epoch (suc (suc (suc (suc (suc (suc (suc (suc (suc (suc k)))))))))) d low same = absurd (omega arith)
 
-only_connections : (j : ℕ) (d : Rule) → j < 7 → bytes_eq (slice_index_or rules j d).id (codes "connections") ≡ true → j ≡ 2
+only_connections : (j : ℕ) (d : Rule) → j < 10 → bytes_eq (slice_index_or rules j d).id (codes "connections") ≡ true → j ≡ 2
 only_connections zero d low same = absurd (true≢false (sym same))
 only_connections (suc zero) d low same = absurd (true≢false (sym same))
 only_connections (suc (suc zero)) d low same = refl
@@ -175,7 +185,10 @@ only_connections (suc (suc (suc zero))) d low same = absurd (true≢false (sym s
 only_connections (suc (suc (suc (suc zero)))) d low same = absurd (true≢false (sym same))
 only_connections (suc (suc (suc (suc (suc zero))))) d low same = absurd (true≢false (sym same))
 only_connections (suc (suc (suc (suc (suc (suc zero)))))) d low same = absurd (true≢false (sym same))
-only_connections (suc (suc (suc (suc (suc (suc (suc k))))))) d low same = absurd (omega arith)
+only_connections (suc (suc (suc (suc (suc (suc (suc zero))))))) d low same = absurd (true≢false (sym same))
+only_connections (suc (suc (suc (suc (suc (suc (suc (suc zero)))))))) d low same = absurd (true≢false (sym same))
+only_connections (suc (suc (suc (suc (suc (suc (suc (suc (suc zero))))))))) d low same = absurd (true≢false (sym same))
+only_connections (suc (suc (suc (suc (suc (suc (suc (suc (suc (suc k)))))))))) d low same = absurd (omega arith)
 
 pub listen_there : (c : Command) (m : ArgMatches) → app_of c ≡ serve_app → IsParsedFrom c m
     → is_some (first_value (found_of m) (codes "listen")) ≡ true

@@ -25,9 +25,10 @@ abbrev pub versioned : App → App
 versioned a = record a { top = record a.top { has_version = true } }
 
 unfoldable pub serve_app : App
-serve_app = with_rule (with_rule (with_rule (with_rule (with_rule (with_rule (with_rule (versioned (new_app (codes "cogserve")))
-    (option (codes "listen"))) (option (codes "epoch"))) (option (codes "connections"))) (words (codes "files")))
-    (choice (codes "at-once"))) (choice (codes "patience"))) (flag (codes "log"))
+serve_app = with_rule (with_rule (with_rule (with_rule (with_rule (with_rule (with_rule (with_rule (with_rule (with_rule
+    (versioned (new_app (codes "cogserve"))) (option (codes "listen"))) (option (codes "epoch"))) (option (codes "connections")))
+    (words (codes "files"))) (choice (codes "at-once"))) (choice (codes "patience"))) (choice (codes "allow-origin")))
+    (flag (codes "announce-last"))) (choice (codes "verify"))) (flag (codes "log"))
 
 -- a text of a flag says whether it is there; with none it isn't
 pub record Tells (text : Option (List ℕ)) (flag : Bool) : Type 0 where
@@ -42,5 +43,8 @@ pub record HasValues (matches : List Row) (line : ServeLine) : Type 0 where
   pub connections : first_of (codes "connections") matches ≡ Some line.connections.now
   pub at_once : first_of (codes "at-once") matches ≡ option_map (λ word. word.now) line.at_once
   pub patience : first_of (codes "patience") matches ≡ option_map (λ word. word.now) line.patience
+  pub allow_origin : first_of (codes "allow-origin") matches ≡ option_map (λ word. word.now) line.allow_origin
+  pub announce_last : Tells (one_of (codes "announce-last") matches) line.announce_last
+  pub verify : first_of (codes "verify") matches ≡ option_map (λ word. word.now) line.verify
   pub log : Tells (one_of (codes "log") matches) line.log
   pub files : all_of (codes "files") matches ≡ Some (map (λ file. file.now) line.files.items)

@@ -12,7 +12,8 @@ use std::alloc::{AllocError, Global};
 use std::convert::AsStr;
 
 /// The words of `cogserve`'s command line: where it listens, its epoch, how many connections it serves in all and at once, how many
-/// seconds one without progress keeps its place, whether there is a log, and its files as `NAME=PATH`.
+/// seconds one without progress keeps its place, what it adds to answers, how often it compares bytes, whether there is a log, and its
+/// files as `NAME=PATH`.
 #[derive(Drop)]
 pub struct ServeLine<'a> {
     pub listen: &'a str,
@@ -20,6 +21,12 @@ pub struct ServeLine<'a> {
     pub connections: &'a str,
     pub at_once: Option<&'a str>,
     pub patience: Option<&'a str>,
+    /// The origin whose pages may read the files in a browser, or `*` for any.
+    pub allow_origin: Option<&'a str>,
+    /// Whether the last answer on a connection says that it is the last.
+    pub announce_last: bool,
+    /// How many seconds pass at least before the bytes of files that seem unchanged are compared again.
+    pub verify: Option<&'a str>,
     /// Whether a log is kept on standard error.
     pub log: bool,
     pub files: Vec<&'a str>,
@@ -80,6 +87,13 @@ fn add_arguments<'a>(alloc: Global, arguments: &mut Vec<Arg<'a>>) -> Result<(), 
     let help =
         "How long a connection without progress keeps its place while another waits, 1 to 3600 (default 60)";
     add_choice(alloc, arguments, "patience", "SECONDS", help)?;
+    let help = "Lets pages of this origin read the files in a browser (`*`: of any origin)";
+    add_choice(alloc, arguments, "allow-origin", "ORIGIN", help)?;
+    let help = "The hundredth answer on a connection says `Connection: close`";
+    add_flag(alloc, arguments, "announce-last", help)?;
+    let help =
+        "Compares the bytes of files that seem unchanged, at most once in SECONDS, 1 to 86400";
+    add_choice(alloc, arguments, "verify", "SECONDS", help)?;
     let help =
         "Tells each answer on standard error, why a file isn't taken anew, and where it listens";
     add_flag(alloc, arguments, "log", help)
@@ -116,6 +130,9 @@ pub fn serve_line<'a, S: AsStr>(alloc: Global, words: &'a [S]) -> Result<ServeLi
         connections,
         at_once: matches.get_str("at-once"),
         patience: matches.get_str("patience"),
+        allow_origin: matches.get_str("allow-origin"),
+        announce_last: matches.get_flag("announce-last"),
+        verify: matches.get_str("verify"),
         log: matches.get_flag("log"),
         files,
     })

@@ -1,5 +1,6 @@
 pub mod Files
 pub mod Number
+pub mod Origins
 pub mod Printed
 pub mod Status
 pub mod Words

@@ -7,7 +7,7 @@ use Rattle.scripts.specs.declared.line.ScriptError.TheVariants as script
 use Rattle.read_command.specs.declared.error.ReadError.{ReadError}
 use Rattle.read_command.specs.declared.error.ReadError.TheVariants as reading
 use Rattle.programs.specs.declared.exit.Exit.{Exit}
-use Rattle.programs.specs.declared.exit.Exit.TheVariants.{NotText, NotAProgram, CommandLine, NotANumber, NotAFile, Script}
+use Rattle.programs.specs.declared.exit.Exit.TheVariants.{NotText, NotAProgram, CommandLine, NotANumber, NotAFile, NotAnOrigin, Script}
 use Rattle.programs.specs.declared.exit.Exit.TheVariants.{RefusedClient, NotAFileUrl, OfFile, NoReport, CantRead, Refused, CantListen, CantAccept, CantWait, CantWrite, CantWriteFile, Memory}
 
 -- 0 where help or the version is asked for, and 2 where the words aren't the program's
@@ -24,6 +24,7 @@ HasStatus (NotAProgram word) n = n ≡ 2
 HasStatus (CommandLine error) n = n ≡ line_status (kind_of error)
 HasStatus (NotANumber word) n = n ≡ 2
 HasStatus (NotAFile word) n = n ≡ 2
+HasStatus (NotAnOrigin word) n = n ≡ 2
 HasStatus (RefusedClient refusal) n = n ≡ 2
 HasStatus (NotAFileUrl word error) n = n ≡ 2
 HasStatus (OfFile fault) n = n ≡ 3

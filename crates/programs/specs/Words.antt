@@ -94,6 +94,10 @@ at_once_number word = number_or 1 10000 256 word
 abbrev pub patience_number : Option (List ℕ) → Option ℕ
 patience_number word = number_or 1 3600 60 word
 
+-- after how many seconds at least the bytes of files that seem unchanged are compared again, if they are; 0 stands for never
+abbrev pub verify_number : Option (List ℕ) → Option ℕ
+verify_number word = number_or 1 86400 0 word
+
 -- a word of the line that says something of connections is no number within its bounds
 abbrev pub HasNoLimit : ServeLine → Type 0
 HasNoLimit line = (connections_number line.connections.now ≡ None) ⊎ (at_once_number (option_copied line.at_once) ≡ None)

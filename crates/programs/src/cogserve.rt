@@ -4,10 +4,11 @@ ghost use Rattle.std.specs.Int.NonZero.{non_zero_usize_get};
 ghost use Rattle.std.specs.Option.{option_copied};
 ghost use Rattle.programs.specs.Files.{AreFiles, IsFile, IsNoFile, IsOfFiles, NamesFile, NamesOneOf};
 ghost use Rattle.programs.specs.Number.{IsOfNumber, Names};
-ghost use Rattle.programs.specs.Words.{HasNoLimit, at_once_number, connections_number, number_32, patience_number};
+ghost use Rattle.programs.specs.Words.{HasNoLimit, at_once_number, connections_number, number_32, patience_number, verify_number};
 
 use crate::exit::Exit;
 use crate::number::{number, number_or};
+use crate::origin::check_origin;
 use cog_server::{PublishError, Server};
 use command_lines::{ServeLine, serve_line};
 use disk_files::{WatchError, Watched};
@@ -34,6 +35,8 @@ where
     let line = serve_line(rt.alloc(), words)?;
     let mut server = server_of(rt, &line)?;
     let limits = limits_of(rt, &line)?;
+    let _ = verify_of(rt, &line)?;
+    check_origin(rt, line.allow_origin)?;
     let mut files = files_of(rt, &line.files)?;
     let mut log = AccessLog {
         rt,
@@ -100,6 +103,15 @@ fn limits_of<R: AllocGlobal>(rt: &R, line: &ServeLine<'_>) -> Result<Limits, Exi
         at_once: NonZeroUsize::new(at_once as usize).unwrap_or(NonZeroUsize::MIN),
         patience: u64::from(patience) * 1_000,
     })
+}
+
+/// How many seconds pass at least before the bytes of files that seem unchanged are compared again; 0 where they never are.
+fn verify_of<R: AllocGlobal>(rt: &R, line: &ServeLine<'_>) -> Result<u32, Exit>
+    ensures ok { IfOk result (λ seconds. verify_number (option_copied line.now.verify) ≡ Some seconds) }
+    ensures err { OnErr result (verify_number (option_copied line.now.verify) ≡ None) }
+    ensures kinds { IfErr result IsOfNumber }
+{
+    number_or(rt, line.verify, 1, 86_400, 0)
 }
 
 /// The file that a word names as `NAME=PATH`, cut at the first `=`.

@@ -23,6 +23,8 @@ pub enum Exit {
     NotANumber(String),
     /// A word of the command line isn't `NAME=PATH`.
     NotAFile(String),
+    /// A word of the command line isn't an origin.
+    NotAnOrigin(String),
     Script(ScriptError),
     /// The file at this path can't be read.
     CantRead(String),
@@ -65,6 +67,7 @@ impl Exit {
             | Exit::CommandLine(_)
             | Exit::NotANumber(_)
             | Exit::NotAFile(_)
+            | Exit::NotAnOrigin(_)
             | Exit::RefusedClient(_)
             | Exit::NotAFileUrl(_, _)
             | Exit::Script(ScriptError::NotAnEvent(_)) => 2,
@@ -133,6 +136,7 @@ impl fmt::Display for ExitLine<'_> {
             Exit::CommandLine(error) => write!(f, "{error}"),
             Exit::NotANumber(word) => write!(f, "{program}: not a number: {word}"),
             Exit::NotAFile(word) => write!(f, "{program}: not a file: {word}"),
+            Exit::NotAnOrigin(word) => write!(f, "{program}: not an origin: {word}"),
             Exit::CantRead(path) => write!(f, "{program}: can't read {path}"),
             Exit::Refused(refusal, name) => {
                 write!(f, "{program}: refused {} {name}", refusal.number())

@@ -8,6 +8,7 @@ mod command;
 mod disk;
 mod exit;
 mod number;
+mod origin;
 mod stored;
 
 pub use cogworld::write_log;

@@ -7,7 +7,8 @@ use Rattle.command_lines.proofs.serve.add_arguments.Goals as goal
 
 pub returns : goal.returns
 unfolding serve_app
-returns c = adds_last c.add_flag.result _ _ _ _ _ c.add_flag.ensures (λ empty.
+returns c = adds_last c.add_flag-2.result _ _ _ _ _ c.add_flag-2.ensures (λ empty.
     let start = subst (λ (l : List Arg). HaveRules l []) (sym empty) tt in
     let needed = c.in_ok-add_option-3.ensures _ (c.in_ok-add_option-2.ensures _ (c.in_ok-add_option.ensures [] start)) in
-    c.in_ok-add_choice-2.ensures _ (c.in_ok-add_choice.ensures _ (c.in_ok-add_files.ensures _ needed)))
+    let amounts = c.in_ok-add_choice-2.ensures _ (c.in_ok-add_choice.ensures _ (c.in_ok-add_files.ensures _ needed)) in
+    c.in_ok-add_choice-4.ensures _ (c.in_ok-add_flag.ensures _ (c.in_ok-add_choice-3.ensures _ amounts)))

@@ -41,6 +41,7 @@ returns-clause-ok g c =
     let matches = matches_of serve_app texts in
     let rows : rows_of found ≡ matches =
     (c.in_ok-matches.ensures.matches (ap is_simple is ∙ simple)).0 ∙ ap (λ (a : App). matches_of a texts) is in
+    let last = flag_text found matches (codes "announce-last") rows in
     let text = flag_text found matches (codes "log") rows in
     record {
       listen = option_value found matches (codes "listen") c.get_str.result c.unwrap-listen.result rows c.get_str.ensures c.unwrap-listen.ensures;
@@ -49,10 +50,17 @@ returns-clause-ok g c =
           c.unwrap-connections.ensures;
       at_once = choice_value found matches (codes "at-once") c.get_str-4.result rows c.get_str-4.ensures;
       patience = choice_value found matches (codes "patience") c.get_str-5.result rows c.get_str-5.ensures;
+      allow_origin = choice_value found matches (codes "allow-origin") c.get_str-6.result rows c.get_str-6.ensures;
+      announce_last = record {
+        none = λ e. c.get_flag.ensures.none (last ∙ e);
+        yes = λ e. c.get_flag.ensures.value (last ∙ e);
+        no = λ e. c.get_flag.ensures.other (last ∙ e);
+      };
+      verify = choice_value found matches (codes "verify") c.get_str-7.result rows c.get_str-7.ensures;
       log = record {
-        none = λ e. c.get_flag.ensures.none (text ∙ e);
-        yes = λ e. c.get_flag.ensures.value (text ∙ e);
-        no = λ e. c.get_flag.ensures.other (text ∙ e);
+        none = λ e. c.get_flag-2.ensures.none (text ∙ e);
+        yes = λ e. c.get_flag-2.ensures.value (text ∙ e);
+        no = λ e. c.get_flag-2.ensures.other (text ∙ e);
       };
       files = all_values found matches (codes "files") c.get_strs.result c.unwrap.result rows c.get_strs.ensures c.unwrap.ensures
           ∙ ap (λ (l : List (Bor (List ℕ))). Some (map (λ (w : Bor (List ℕ)). w.now) l)) (sym c.in_ok-files.ensures.items);

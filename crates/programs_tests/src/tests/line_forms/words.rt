@@ -113,6 +113,19 @@ fn reads_the_options_of_cogread_anywhere(rt: HostRuntime) -> Result<(), Fail> {
     expect_descriptions(&rt)
 }
 
+/// The options of `cogserve` that add to answers, and the line that has them.
+const ADDED: &str = "cogserve --allow-origin * --listen h:1 --epoch 1 --announce-last --connections 2 a=p --verify=60";
+
+#[test]
+fn reads_what_cogserve_adds(rt: HostRuntime) -> Result<(), Fail> {
+    let words = words_of(rt.alloc(), ADDED)?;
+    let line = serve_line(rt.alloc(), &words)?;
+    assert_eq!(rt; line.allow_origin, Some("*"));
+    assert!(rt; line.announce_last);
+    assert_eq!(rt; line.verify, Some("60"));
+    Ok(())
+}
+
 /// Words of `cogserve`: the address, the epoch, the number of connections, how many at once, the patience, the files, and whether
 /// there is a log.
 type ServedRow = (
