@@ -11,6 +11,13 @@ use Rattle.disk_files.specs.declared.watched.Watched.{Watched}
 abbrev pub seen_of : Watched → Option Stamp
 seen_of w = w.seen
 
+-- how many milliseconds pass at least from one comparison of its bytes to the next while the disk says the same of it, and the moment of the last
+abbrev pub verify_of : Watched → Option ℕ
+verify_of w = w.verify
+
+abbrev pub compared_of : Watched → ℕ
+compared_of w = w.compared
+
 -- where the server refuses it, it does so by its rules for some bytes, or for want of memory where these refuse none
 abbrev pub IsRefusedBy : ServerState → List ℕ → WatchError → Type 0
 IsRefusedBy s name (Refused e) = (file : List ℕ) × IsRefusal (refusal_of s.count s.catalogue name file) e

@@ -1,5 +1,5 @@
 //! A file of the disk that is published, and when it has to be read again.
-ghost use Rattle.std.specs.Prelude.{◌≡◌, ◌≤◌, ◌↔◌, ℕ, List, IfErr, IfOk, IfSome, IsSome, IsSomeAnd, None, OnErr, OnOk, Some, length};
+ghost use Rattle.std.specs.Prelude.{◌≡◌, ◌≤◌, ◌-◌, ◌↔◌, ℕ, List, IfErr, IfOk, IfSome, IsSome, IsSomeAnd, IsTrue, None, OnErr, OnOk, Some, length};
 ghost use Rattle.std.specs.Duration.{as_nanos};
 ghost use Rattle.std.specs.Fs.{file_type, metadata_len};
 ghost use Rattle.std.specs.Fs.{IsFile as IsPlainFile};
@@ -9,7 +9,7 @@ ghost use Rattle.cog_server.specs.Server.{IsRefusal, ServerState, refusal_of};
 ghost use Rattle.disk_files.specs.Given.{GivesAlways};
 ghost use Rattle.disk_files.specs.Published.{HasOther, IsFileOf, IsPublished};
 ghost use Rattle.disk_files.specs.Settled.{IsSettledSince};
-ghost use Rattle.disk_files.specs.Watching.{IsRefusedBy, MayPass, seen_of};
+ghost use Rattle.disk_files.specs.Watching.{IsRefusedBy, MayPass, compared_of, seen_of, verify_of};
 ghost use Rattle.disk_files.specs.declared.watched.WatchError.TheVariants.{Refused};
 
 use crate::reading::{bytes_of, has_bytes};
@@ -44,6 +44,11 @@ pub struct Watched<'a> {
     pub name: &'a str,
     pub path: &'a str,
     seen: Option<Stamp>,
+    /// How many milliseconds pass at least from one comparison to the next while the disk says the same of the file. `None` where its bytes
+    /// aren't compared then.
+    verify: Option<u64>,
+    /// The moment of the last comparison, in milliseconds of one clock.
+    compared: u64,
 }
 
 /// What is remembered of what the disk says, if it is a file's: where each later write shows in it, by the moment that is known.
@@ -134,6 +139,29 @@ impl<'a> Watched<'a> {
             name,
             path,
             seen: None,
+            verify: None,
+            compared: 0,
+        }
+    }
+
+    /// Has the bytes compared also where the disk says the same of the file as before, once `millis` milliseconds have passed since they were
+    /// last read. So a change through a mapping, which moves no time, is seen.
+    pub fn verify_each(&mut self, millis: u64)
+        ensures verify { verify_of self.new ≡ Some millis }
+        ensures seen { seen_of self.new ≡ seen_of self.old }
+        ensures name { self.new.name ≡ self.old.name }
+        ensures path { self.new.path ≡ self.old.path }
+    {
+        self.verify = Some(millis);
+    }
+
+    /// Returns whether the bytes are to be compared at moment `now`, though the disk says the same of the file as before.
+    fn is_due(&self, now: u64) -> bool
+        ensures { IsTrue result ↔ IsSomeAnd (verify_of self.now) (λ millis. millis ≤ now - compared_of self.now) }
+    {
+        match self.verify {
+            Some(millis) => now.saturating_sub(self.compared) >= millis,
+            None => false,
         }
     }
 
@@ -230,12 +258,14 @@ impl<'a> Watched<'a> {
         self.publish_all_of(rt.alloc(), server, file, seen)
     }
 
-    /// Publishes the file if its bytes changed. One that can't be read, or is refused, keeps its old publication. It isn't
-    /// read where the disk says the same of it as when it was last read, nor where it is too large by its length.
+    /// Publishes the file if its bytes changed. One that can't be read, or is refused, keeps its old publication. It isn't read where it is too
+    /// large by its length. Nor is it where the disk says the same of it as when it was last read, unless its bytes are to be compared at
+    /// moment `now`.
     pub fn publish_changed<R: Files + Clock + AllocGlobal>(
         &mut self,
         rt: &R,
         server: &mut Server,
+        now: u64,
     ) -> Result<Option<Tag>, WatchError>
         ensures ok { IfOk result (λ tag. IfSome tag (IsPublished self.old.name.now server.old server.new)) }
         ensures other { IfOk result (λ tag. IsSome tag → HasOther self.old.name.now server.old server.new) }
@@ -251,9 +281,10 @@ impl<'a> Watched<'a> {
         ensures path { self.new.path ≡ self.old.path }
     {
         let seen = look(rt, self.path)?;
-        if is_unchanged(seen, self.seen) {
+        if is_unchanged(seen, self.seen) && !self.is_due(now) {
             return Ok(None);
         }
+        self.compared = now;
         // What is remembered is of the file whose bytes are read: the path may lead elsewhere by now.
         let (file, seen, size) = open(rt, self.path)?;
         if let Some(refusal) = refusal_by_length(self.name.as_bytes(), size) {

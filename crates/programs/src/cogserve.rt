@@ -4,12 +4,13 @@ ghost use Rattle.std.specs.Int.NonZero.{non_zero_usize_get};
 ghost use Rattle.std.specs.Option.{option_copied};
 ghost use Rattle.programs.specs.Files.{AreFiles, IsFile, IsNoFile, IsOfFiles, NamesFile, NamesOneOf};
 ghost use Rattle.programs.specs.Number.{IsOfNumber, Names};
+ghost use Rattle.programs.specs.Origins.{IsOriginOrNone, NamesNoOrigin};
 ghost use Rattle.programs.specs.Words.{HasNoLimit, at_once_number, connections_number, number_32, patience_number, verify_number};
 
 use crate::exit::Exit;
 use crate::number::{number, number_or};
 use crate::origin::check_origin;
-use cog_server::{PublishError, Server};
+use cog_server::{Additions, PublishError, Server};
 use command_lines::{ServeLine, serve_line};
 use disk_files::{WatchError, Watched};
 use server_files::{
@@ -36,13 +37,20 @@ where
     let mut server = server_of(rt, &line)?;
     let limits = limits_of(rt, &line)?;
     let _ = verify_of(rt, &line)?;
-    check_origin(rt, line.allow_origin)?;
+    let additions = additions_of(rt, &line)?;
     let mut files = files_of(rt, &line.files)?;
     let mut log = AccessLog {
         rt,
         is_kept: line.log,
     };
-    match serve(&mut log, line.listen, &mut server, &mut files, limits) {
+    match serve(
+        &mut log,
+        line.listen,
+        &mut server,
+        &mut files,
+        limits,
+        additions,
+    ) {
         Ok(()) => Ok(()),
         Err(error) => {
             log.print(&error);
@@ -58,6 +66,7 @@ fn serve<'a, R>(
     server: &mut Server,
     files: &mut [Watched<'a>],
     limits: Limits,
+    additions: Additions<'_>,
 ) -> Result<(), ServeFilesError<'a>>
 where
     R: Files
@@ -69,7 +78,7 @@ where
 {
     publish_all(log, server, files)?;
     let listener = listen(log, place)?;
-    serve_connections(log, server, files, listener, limits)
+    serve_connections(log, server, files, listener, limits, additions)
 }
 
 /// A server of the words' epoch, without publications.
@@ -102,6 +111,20 @@ fn limits_of<R: AllocGlobal>(rt: &R, line: &ServeLine<'_>) -> Result<Limits, Exi
         connections,
         at_once: NonZeroUsize::new(at_once as usize).unwrap_or(NonZeroUsize::MIN),
         patience: u64::from(patience) * 1_000,
+    })
+}
+
+/// Returns what the words add to answers.
+fn additions_of<'a, R: AllocGlobal>(rt: &R, line: &ServeLine<'a>) -> Result<Additions<'a>, Exit>
+    ensures origin { IfOk result (λ added. option_copied added.origin ≡ option_copied line.now.allow_origin) }
+    ensures checked { OnOk result (IsOriginOrNone (option_copied line.now.allow_origin)) }
+    ensures last { IfOk result (λ added. added.announces_last ≡ line.now.announce_last) }
+    ensures told { IfErr result (NamesNoOrigin (option_copied line.now.allow_origin)) }
+{
+    check_origin(rt, line.allow_origin)?;
+    Ok(Additions {
+        origin: line.allow_origin.map(|origin| origin.as_bytes()),
+        announces_last: line.announce_last,
     })
 }
 

@@ -4,6 +4,7 @@ ghost use Rattle.disk_files.specs.Published.{IsPublished};
 ghost use Rattle.server_files.specs.Publishing.{ArePublished, ArePublishedAnew, IsServed, KeepsOthers, KeepsOthersThan, MayBePublished, names};
 
 use crate::access_log::AccessLog;
+use crate::clock::moment;
 use crate::error::{NotPublished, ServeFilesError};
 use cog_server::Server;
 use disk_files::Watched;
@@ -75,7 +76,7 @@ fn look_at<R: Files + Clock + Print + Eprint + AllocGlobal>(
     ensures name { file.new.name ≡ file.old.name }
 {
     law_publications_replace();
-    match file.publish_changed(log.rt, server) {
+    match file.publish_changed(log.rt, server, moment(log.rt)) {
         Ok(Some(tag)) => {
             let _ = print_published(log.rt, file.name, &tag);
         }

@@ -103,14 +103,14 @@ fn remembers_the_file_that_it_read(rt: HostRuntime) -> Result<(), Fail> {
     };
     let mut server = Server::new(rt.alloc(), 7);
     let mut watched = Watched::new("a", PATH);
-    let first = watched.publish_changed(&turning, &mut server);
+    let first = watched.publish_changed(&turning, &mut server, 0);
     assert!(rt; matches!(first, Ok(Some(_))));
     assert!(rt; server.file(b"a") == Some(b"read"));
     turning.leads_elsewhere.set(false);
-    let second = watched.publish_changed(&turning, &mut server);
+    let second = watched.publish_changed(&turning, &mut server, 0);
     assert!(rt; matches!(second, Ok(Some(_))));
     assert!(rt; server.file(b"a") == Some(b"looked at"));
-    let third = watched.publish_changed(&turning, &mut server);
+    let third = watched.publish_changed(&turning, &mut server, 0);
     assert!(rt; matches!(third, Ok(None)));
     fs::remove_file(&rt, PATH)?;
     fs::remove_file(&rt, OTHER)?;

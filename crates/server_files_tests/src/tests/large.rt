@@ -16,9 +16,9 @@ fn expect_anew<R: Abort + Files + Clock + AllocGlobal>(
     file: &[u8],
 ) -> Result<(), Fail> {
     fs::write(rt, PATH, file)?;
-    assert!(rt; matches!(watched.publish_changed(rt, server), Ok(Some(_))));
+    assert!(rt; matches!(watched.publish_changed(rt, server, 0), Ok(Some(_))));
     assert!(rt; server.file(b"a") == Some(file));
-    assert!(rt; matches!(watched.publish_changed(rt, server), Ok(None)));
+    assert!(rt; matches!(watched.publish_changed(rt, server, 0), Ok(None)));
     Ok(())
 }
 
