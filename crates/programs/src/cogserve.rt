@@ -1,5 +1,5 @@
 //! `cogserve`: publishes files of the disk and serves them over many connections at once.
-ghost use Rattle.std.specs.Prelude.{◌≡◌, ◌*◌, ◌++◌, ◌∷◌, [], IfErr, IfOk, None, OnErr, OnOk, Some, option_map};
+ghost use Rattle.std.specs.Prelude.{◌≡◌, ◌*◌, ◌++◌, ◌∷◌, [], IfErr, IfOk, None, Ok, OnErr, OnOk, Some, option_map};
 ghost use Rattle.std.specs.Int.NonZero.{non_zero_usize_get};
 ghost use Rattle.std.specs.Option.{option_copied};
 ghost use Rattle.programs.specs.Files.{AreFiles, IsFile, IsNoFile, IsOfFiles, NamesFile, NamesOneOf};
@@ -9,8 +9,9 @@ ghost use Rattle.programs.specs.Words.{HasNoLimit, at_once_number, connections_n
 use crate::exit::Exit;
 use crate::number::{number, number_or};
 use crate::origin::check_origin;
+use crate::quick;
 use cog_server::{PublishError, Server};
-use command_lines::{ServeLine, serve_line};
+use command_lines::{ServeLine, StartLine, start_line};
 use disk_files::{WatchError, Watched};
 use server_files::{
     AccessLog, NotPublished, ServeFilesError, listen, publish_all, serve_connections,
@@ -22,7 +23,7 @@ use std::net::{Net, TcpListener, TcpStream};
 use std::num::NonZeroUsize;
 use std::rt::{Clock, Files};
 
-/// Runs the program on its words, of which the first is its own name.
+/// Runs the program on its words, of which the first is its own name. The word `help` alone asks for help.
 pub fn run_line<R>(rt: &R, words: &[&str]) -> Result<(), Exit>
 where
     R: Files
@@ -32,21 +33,64 @@ where
         + AllocGlobal
         + Net<Listener = TcpListener, Stream = TcpStream>,
 {
-    let line = serve_line(rt.alloc(), words)?;
-    let mut server = server_of(rt, &line)?;
-    let limits = limits_of(rt, &line)?;
-    let _ = verify_of(rt, &line)?;
+    if words.len() == 2 && words[1] == "help" {
+        run_form(rt, &[words[0], "--help"])
+    } else {
+        run_form(rt, words)
+    }
+}
+
+/// Runs the program on words of one of its forms.
+fn run_form<R>(rt: &R, words: &[&str]) -> Result<(), Exit>
+where
+    R: Files
+        + Clock
+        + Print
+        + Eprint
+        + AllocGlobal
+        + Net<Listener = TcpListener, Stream = TcpStream>,
+{
+    match start_line(rt.alloc(), words)? {
+        StartLine::Full(line) => run_full(rt, &line),
+        StartLine::Quick(line) => quick::run(rt, &line),
+    }
+}
+
+/// Runs the program on a line of the full form.
+fn run_full<R>(rt: &R, line: &ServeLine<'_>) -> Result<(), Exit>
+where
+    R: Files
+        + Clock
+        + Print
+        + Eprint
+        + AllocGlobal
+        + Net<Listener = TcpListener, Stream = TcpStream>,
+{
+    let mut server = server_of(rt, line)?;
+    let limits = limits_of(rt, line.connections, line.at_once, line.patience)?;
+    let _ = verify_of(rt, line.verify)?;
     check_origin(rt, line.allow_origin)?;
     let mut files = files_of(rt, &line.files)?;
     let mut log = AccessLog {
         rt,
         is_kept: line.log,
     };
-    match serve(&mut log, line.listen, &mut server, &mut files, limits) {
-        Ok(()) => Ok(()),
+    let served = serve(&mut log, line.listen, &mut server, &mut files, limits);
+    ended(&log, served)
+}
+
+/// Logs the error of what ends the program, and makes its fault.
+pub(crate) fn ended<R: Clock + Eprint + AllocGlobal, T: Drop>(
+    log: &AccessLog<'_, R>,
+    outcome: Result<T, ServeFilesError<'_>>,
+) -> Result<T, Exit>
+    ensures { IfOk outcome (λ value. result ≡ Ok value) }
+{
+    match outcome {
+        Ok(value) => Ok(value),
         Err(error) => {
             log.print(&error);
-            Err(exit_of(rt, error)?)
+            Err(exit_of(log.rt, error)?)
         }
     }
 }
@@ -85,19 +129,24 @@ fn server_of<R: AllocGlobal>(rt: &R, line: &ServeLine<'_>) -> Result<Server, Exi
 }
 
 /// What the words say of connections: 256 at once, and a patience of 60 seconds, where they don't.
-fn limits_of<R: AllocGlobal>(rt: &R, line: &ServeLine<'_>) -> Result<Limits, Exit>
-    ensures connections { IfOk result (λ limits. connections_number line.now.connections.now ≡ Some limits.connections) }
-    ensures at_once { IfOk result (λ limits. at_once_number (option_copied line.now.at_once)
+pub(crate) fn limits_of<R: AllocGlobal>(
+    rt: &R,
+    connections: &str,
+    at_once: Option<&str>,
+    patience: Option<&str>,
+) -> Result<Limits, Exit>
+    ensures connections { IfOk result (λ limits. connections_number connections.now ≡ Some limits.connections) }
+    ensures at_once { IfOk result (λ limits. at_once_number (option_copied at_once.entry)
         ≡ Some (non_zero_usize_get limits.at_once)) }
     // In milliseconds.
-    ensures patience { IfOk result (λ limits. option_map (λ seconds. seconds * 1000) (patience_number (option_copied line.now.patience))
+    ensures patience { IfOk result (λ limits. option_map (λ seconds. seconds * 1000) (patience_number (option_copied patience.entry))
         ≡ Some limits.patience) }
-    ensures err { OnErr result (HasNoLimit line.now) }
+    ensures err { OnErr result (HasNoLimit connections.now (option_copied at_once.entry) (option_copied patience.entry)) }
     ensures kinds { IfErr result IsOfNumber }
 {
-    let connections = number(rt, line.connections, 1, u32::MAX)?;
-    let at_once = number_or(rt, line.at_once, 1, 10_000, 256)?;
-    let patience = number_or(rt, line.patience, 1, 3_600, 60)?;
+    let connections = number(rt, connections, 1, u32::MAX)?;
+    let at_once = number_or(rt, at_once, 1, 10_000, 256)?;
+    let patience = number_or(rt, patience, 1, 3_600, 60)?;
     Ok(Limits {
         connections,
         at_once: NonZeroUsize::new(at_once as usize).unwrap_or(NonZeroUsize::MIN),
@@ -106,12 +155,12 @@ fn limits_of<R: AllocGlobal>(rt: &R, line: &ServeLine<'_>) -> Result<Limits, Exi
 }
 
 /// How many seconds pass at least before the bytes of files that seem unchanged are compared again; 0 where they never are.
-fn verify_of<R: AllocGlobal>(rt: &R, line: &ServeLine<'_>) -> Result<u32, Exit>
-    ensures ok { IfOk result (λ seconds. verify_number (option_copied line.now.verify) ≡ Some seconds) }
-    ensures err { OnErr result (verify_number (option_copied line.now.verify) ≡ None) }
+pub(crate) fn verify_of<R: AllocGlobal>(rt: &R, word: Option<&str>) -> Result<u32, Exit>
+    ensures ok { IfOk result (λ seconds. verify_number (option_copied word.entry) ≡ Some seconds) }
+    ensures err { OnErr result (verify_number (option_copied word.entry) ≡ None) }
     ensures kinds { IfErr result IsOfNumber }
 {
-    number_or(rt, line.verify, 1, 86_400, 0)
+    number_or(rt, word, 1, 86_400, 0)
 }
 
 /// The file that a word names as `NAME=PATH`, cut at the first `=`.
