@@ -1,2 +1,4 @@
 mod ArgumentLemmas
 mod LineLemmas
+mod NamedLemmas
+mod WordLemmas

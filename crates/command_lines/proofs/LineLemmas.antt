@@ -23,7 +23,7 @@ use Rattle.clap.proofs.WalkLemmas.{both, first_value-rows, one_text-rows, raw_va
 use Rattle.clap.proofs.CallerLemmas.{present_has_entry, required_has_value, required_present}
 use Rattle.clap.specs.declared.builder.action.ArgAction.TheVariants.{Set}
 use Rattle.command_lines.specs.ReadLine.{Asks, AsksDescription, AsksWindow, HasFound, HasLine, word_of}
-use Rattle.command_lines.specs.ServeLine.{Tells, choice, flag, option, serve_app, words}
+use Rattle.command_lines.specs.ServeLine.{Tells, choice, flag, option, serve_app, serve_app_of, valued, words}
 use Rattle.command_lines.specs.declared.read.AskedWords.{AskedWords}
 use Rattle.command_lines.specs.declared.read.AskedWords.TheVariants.{Info}
 use Rattle.command_lines.specs.declared.read.ReadLine.{ReadLine}
@@ -126,27 +126,30 @@ module _ (a : App) (alone : IsAlone a) (c : Command) (e : app_of c ≡ a) where
       (λ auto. own (elim auto [ inl h ↦ inl (sym id ∙ h) | inr h ↦ inr (sym id ∙ h) ])) in
       subst (λ (n : List ℕ). is_some (first_value (found_of m) n) ≡ true) id has
 
-abbrev rules : List Rule
-rules = option (codes "listen") ∷ option (codes "epoch") ∷ option (codes "connections") ∷ words (codes "files")
+abbrev rules_of : (needed : Bool) → List Rule
+rules_of needed = valued needed (codes "listen") ∷ valued needed (codes "epoch") ∷ valued needed (codes "connections") ∷ words (codes "files")
     ∷ choice (codes "at-once") ∷ choice (codes "patience") ∷ choice (codes "allow-origin") ∷ flag (codes "announce-last") ∷ choice (codes "verify")
     ∷ flag (codes "log") ∷ []
 
-alone_at : (k : ℕ) (d : Rule) → k < 10 → is_alone (slice_index_or rules k d) ≡ true
-alone_at zero d low = refl
-alone_at (suc zero) d low = refl
-alone_at (suc (suc zero)) d low = refl
-alone_at (suc (suc (suc zero))) d low = refl
-alone_at (suc (suc (suc (suc zero)))) d low = refl
-alone_at (suc (suc (suc (suc (suc zero))))) d low = refl
-alone_at (suc (suc (suc (suc (suc (suc zero)))))) d low = refl
-alone_at (suc (suc (suc (suc (suc (suc (suc zero))))))) d low = refl
-alone_at (suc (suc (suc (suc (suc (suc (suc (suc zero)))))))) d low = refl
-alone_at (suc (suc (suc (suc (suc (suc (suc (suc (suc zero))))))))) d low = refl
-alone_at (suc (suc (suc (suc (suc (suc (suc (suc (suc (suc k)))))))))) d low = absurd (omega arith)
+alone_at : (needed : Bool) (k : ℕ) (d : Rule) → k < 10 → is_alone (slice_index_or (rules_of needed) k d) ≡ true
+alone_at needed zero d low = refl
+alone_at needed (suc zero) d low = refl
+alone_at needed (suc (suc zero)) d low = refl
+alone_at needed (suc (suc (suc zero))) d low = refl
+alone_at needed (suc (suc (suc (suc zero)))) d low = refl
+alone_at needed (suc (suc (suc (suc (suc zero))))) d low = refl
+alone_at needed (suc (suc (suc (suc (suc (suc zero)))))) d low = refl
+alone_at needed (suc (suc (suc (suc (suc (suc (suc zero))))))) d low = refl
+alone_at needed (suc (suc (suc (suc (suc (suc (suc (suc zero)))))))) d low = refl
+alone_at needed (suc (suc (suc (suc (suc (suc (suc (suc (suc zero))))))))) d low = refl
+alone_at needed (suc (suc (suc (suc (suc (suc (suc (suc (suc (suc k)))))))))) d low = absurd (omega arith)
 
-serve_alone : IsAlone serve_app
-unfolding serve_app
-serve_alone = record { some = omega arith; rules = alone_at; plain = refl; strict = refl }
+abbrev rules : List Rule
+rules = rules_of true
+
+serve_alone : (needed : Bool) → IsAlone (serve_app_of needed)
+unfolding serve_app_of
+serve_alone needed = record { some = omega arith; rules = alone_at needed; plain = refl; strict = refl }
 
 option_needed : (name : List ℕ) → IsNeeded name (option name)
 option_needed name = record { id = refl; required = refl; action = refl; range = refl; alone = refl }
@@ -192,31 +195,33 @@ only_connections (suc (suc (suc (suc (suc (suc (suc (suc (suc (suc k)))))))))) d
 
 pub listen_there : (c : Command) (m : ArgMatches) → app_of c ≡ serve_app → IsParsedFrom c m
     → is_some (first_value (found_of m) (codes "listen")) ≡ true
-unfolding serve_app
-listen_there c m e p = there serve_app serve_alone c e m (codes "listen") 0 p (omega arith) (λ d. option_needed (codes "listen")) only_listen
+unfolding serve_app_of
+listen_there c m e p = there serve_app (serve_alone true) c e m (codes "listen") 0 p (omega arith) (λ d. option_needed (codes "listen")) only_listen
     (λ no. absurd (cc)) (λ no. elim no [ inl h ↦ cc | inr h ↦ cc ])
 
 pub epoch_there : (c : Command) (m : ArgMatches) → app_of c ≡ serve_app → IsParsedFrom c m
     → is_some (first_value (found_of m) (codes "epoch")) ≡ true
-unfolding serve_app
-epoch_there c m e p = there serve_app serve_alone c e m (codes "epoch") 1 p (omega arith) (λ d. option_needed (codes "epoch")) only_epoch
+unfolding serve_app_of
+epoch_there c m e p = there serve_app (serve_alone true) c e m (codes "epoch") 1 p (omega arith) (λ d. option_needed (codes "epoch")) only_epoch
     (λ no. absurd (cc)) (λ no. elim no [ inl h ↦ cc | inr h ↦ cc ])
 
 pub connections_there : (c : Command) (m : ArgMatches) → app_of c ≡ serve_app → IsParsedFrom c m
     → is_some (first_value (found_of m) (codes "connections")) ≡ true
-unfolding serve_app
-connections_there c m e p = there serve_app serve_alone c e m (codes "connections") 2 p (omega arith) (λ d. option_needed (codes "connections")) only_connections
+unfolding serve_app_of
+connections_there c m e p = there serve_app (serve_alone true) c e m (codes "connections") 2 p (omega arith) (λ d. option_needed (codes "connections")) only_connections
     (λ no. absurd (cc)) (λ no. elim no [ inl h ↦ cc | inr h ↦ cc ])
 
 -- the files have an entry
-pub files_there : (c : Command) (m : ArgMatches) → app_of c ≡ serve_app → IsParsedFrom c m
+pub files_there : (needed : Bool) (c : Command) (m : ArgMatches) → app_of c ≡ serve_app_of needed → IsParsedFrom c m
     → is_some (matched_of (found_of m) (codes "files")) ≡ true
-unfolding serve_app
-files_there c m e p =
-    let d = some_argument serve_app serve_alone c e in
-    let within : 3 < length (args_of c) = omega (arith, as_many serve_app serve_alone c e) in
-    let rule : rule_of (slice_index_or (args_of c) 3 d) ≡ words (codes "files") = rule_at serve_app serve_alone c e 3 d within in
-    let present = required_present c m p (plain serve_app serve_alone c e) (local serve_app serve_alone c e) (strict serve_app serve_alone c e) 3 d within
+unfolding serve_app_of
+files_there needed c m e p =
+    let app = serve_app_of needed in
+    let alone = serve_alone needed in
+    let d = some_argument app alone c e in
+    let within : 3 < length (args_of c) = omega (arith, as_many app alone c e) in
+    let rule : rule_of (slice_index_or (args_of c) 3 d) ≡ words (codes "files") = rule_at app alone c e 3 d within in
+    let present = required_present c m p (plain app alone c e) (local app alone c e) (strict app alone c e) 3 d within
     (ap (λ (r : Rule). r.required) rule) in
     subst (λ (n : List ℕ). is_some (matched_of (found_of m) n) ≡ true) (ap (λ (r : Rule). r.id) rule)
     (present_has_entry (found_of m) (slice_index_or (args_of c) 3 d).id.now present)
@@ -250,18 +255,20 @@ pub world_simple : is_simple world_app ≡ true
 unfolding world_app clap_on_literals
 world_simple = refl
 
-pub simple : is_simple serve_app ≡ true
-unfolding serve_app clap_on_literals
-simple = refl
+pub simple : (needed : Bool) → is_simple (serve_app_of needed) ≡ true
+unfolding serve_app_of clap_on_literals
+simple true = refl
+simple false = refl
 
 -- no argument has a rule on another
 pub world_free : is_simple_and_free world_app ≡ true
 unfolding world_app clap_on_literals
 world_free = refl
 
-pub serve_free : is_simple_and_free serve_app ≡ true
-unfolding serve_app clap_on_literals
-serve_free = refl
+pub serve_free : (needed : Bool) → is_simple_and_free (serve_app_of needed) ≡ true
+unfolding serve_app_of clap_on_literals
+serve_free true = refl
+serve_free false = refl
 
 -- the value of an option that was found is its value by the matches
 pub option_value : (f : Found) (matches : List Row) (name : List ℕ) (o : Option (Bor (List ℕ))) (v : Bor (List ℕ)) → rows_of f ≡ matches

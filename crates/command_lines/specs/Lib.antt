@@ -1,5 +1,10 @@
+pub mod NamedFiles
 pub mod Number
+pub mod Origins
+pub mod FileName
 pub mod FileUrl
+pub mod FileWord
+pub mod QuickLine
 pub mod ReadLine
 pub mod Rules
 pub mod ServeLine

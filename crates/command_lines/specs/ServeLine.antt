@@ -4,13 +4,17 @@ use Rattle.clap.specs.Words.{App, Row, Rule, all_of, first_of, new_app, new_rule
 use Rattle.clap.specs.declared.builder.action.ArgAction.TheVariants.{Set, SetTrue, Append}
 use Rattle.command_lines.specs.declared.serve.ServeLine.{ServeLine}
 
+-- an option with one value, which has to stand or may be left out
+abbrev pub valued : (required : Bool) → List ℕ → Rule
+valued needed name = record (new_rule name) { long = Some name; value_names = 1; required = needed; action = Some Set }
+
 -- an option that has to stand, with one value
 abbrev pub option : List ℕ → Rule
-option name = record (new_rule name) { long = Some name; value_names = 1; required = true; action = Some Set }
+option name = valued true name
 
 -- an option with one value, which may be left out
 abbrev pub choice : List ℕ → Rule
-choice name = record (option name) { required = false }
+choice name = valued false name
 
 -- an option without a value
 abbrev pub flag : List ℕ → Rule
@@ -24,11 +28,16 @@ words name = record (new_rule name) { value_names = 1; required = true; action =
 abbrev pub versioned : App → App
 versioned a = record a { top = record a.top { has_version = true } }
 
-unfoldable pub serve_app : App
-serve_app = with_rule (with_rule (with_rule (with_rule (with_rule (with_rule (with_rule (with_rule (with_rule (with_rule
-    (versioned (new_app (codes "cogserve"))) (option (codes "listen"))) (option (codes "epoch"))) (option (codes "connections")))
-    (words (codes "files"))) (choice (codes "at-once"))) (choice (codes "patience"))) (choice (codes "allow-origin")))
-    (flag (codes "announce-last"))) (choice (codes "verify"))) (flag (codes "log"))
+-- The command, by whether the words of where, by which epoch and how often it serves have to stand.
+unfoldable pub serve_app_of : (required : Bool) → App
+serve_app_of needed = with_rule (with_rule (with_rule (with_rule (with_rule (with_rule (with_rule (with_rule (with_rule (with_rule
+    (versioned (new_app (codes "cogserve"))) (valued needed (codes "listen"))) (valued needed (codes "epoch")))
+    (valued needed (codes "connections"))) (words (codes "files"))) (choice (codes "at-once"))) (choice (codes "patience")))
+    (choice (codes "allow-origin"))) (flag (codes "announce-last"))) (choice (codes "verify"))) (flag (codes "log"))
+
+-- the command of the full form, in which they have to stand
+abbrev pub serve_app : App
+serve_app = serve_app_of true
 
 -- a text of a flag says whether it is there; with none it isn't
 pub record Tells (text : Option (List ℕ)) (flag : Bool) : Type 0 where

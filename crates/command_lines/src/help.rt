@@ -6,7 +6,11 @@ pub const VERSION: &str = "0.1.0";
 /// What `cogread --help` tells behind its options.
 pub const READ_NOTES: &str = "\
 Example:
+  cogtools cogread http://127.0.0.1:8080/a.tif
   cogtools cogread info 127.0.0.1:8080 a.tif
+
+A URL alone is described. In each command, http://HOST[:PORT]/NAME or the path of a file of the disk may stand for
+SERVER NAME.
 
 A fault of the file is told as `fault N`, or as `fault N TAG` where it is about one field:
    1  Header       No classic TIFF: the byte order or the number 42 is wrong
@@ -31,7 +35,7 @@ A fault of the file is told as `fault N`, or as `fault N TAG` where it is about 
 Exit status:
   0  The report is written
   1  Standard output or the file of --output can't be written, or out of memory
-  2  The words aren't those above, a URL names no file, or `refused N`: 1 the server, 2 the name
+  2  The words aren't those above, a URL names no file of a server, or `refused N`: 1 the server, 2 the name
   3  A fault of the file
   4  `no report` stands after all requests";
 
@@ -51,6 +55,28 @@ Exit status:
   0  All connections are served
   1  A file can't be read or is refused, can't listen, accept or write, or out of memory
   2  The words aren't those above";
+
+/// What `cogserve --help` tells behind its options, of the form in which each may be left out.
+pub const QUICK_NOTES: &str = "\
+Example:
+  cogtools cogserve a.tif b=/data/b.tif
+  cogtools cogserve --listen 127.0.0.1:8080 --epoch 1 --connections 100 a.tif=/data/a.tif
+
+A FILE's name is the last part of its path, in which bytes that no name has become `_`. Two files of one name are
+refused. The URL of each file is printed, in a line of its own, and --announce-last is on. Where --listen, --epoch and
+--connections all stand, none of this holds: each file is NAME=PATH.
+
+A file that isn't published is told as `refused N NAME`:
+  1  The name has other bytes than A-Z a-z 0-9 . _ - / or not 1 to 200 of them
+  2  The file is empty
+  3  The file has more than 67108864 bytes
+  4  There are 64 names already
+  5  The epoch's 4294967295 publications are used up
+
+Exit status:
+  0  All connections are served
+  1  A file can't be read or is refused, can't listen, accept or write, no clock, or out of memory
+  2  The words aren't those above, or two files have one name";
 
 /// What `cogworld --help` tells behind its options.
 pub const WORLD_NOTES: &str = "\

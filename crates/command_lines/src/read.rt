@@ -58,21 +58,21 @@ Example:
   cogtools cogread window 127.0.0.1:8080 a.tif 0 0 256 256 > window.pgm
   cogtools cogread window http://127.0.0.1:8080/a.tif 0 0 256 256 --output window.pgm
 
-http://HOST[:PORT]/NAME stands for SERVER NAME, and its connection is kept.";
+http://HOST[:PORT]/NAME stands for SERVER NAME, and its connection is kept. So does the path of a file of the disk.";
 
 const INFO_EXAMPLE: &str = "\
 Example:
   cogtools cogread info 127.0.0.1:8080 a.tif
   cogtools cogread info http://127.0.0.1:8080/a.tif
 
-http://HOST[:PORT]/NAME stands for SERVER NAME, and its connection is kept.";
+http://HOST[:PORT]/NAME stands for SERVER NAME, and its connection is kept. So does the path of a file of the disk.";
 
 const DESCRIBE_EXAMPLE: &str = "\
 Example:
   cogtools cogread describe 127.0.0.1:8080 a.tif
   cogtools cogread describe http://127.0.0.1:8080/a.tif --json
 
-http://HOST[:PORT]/NAME stands for SERVER NAME, and its connection is kept.";
+http://HOST[:PORT]/NAME stands for SERVER NAME, and its connection is kept. So does the path of a file of the disk.";
 
 /// Adds an argument, if there is one.
 fn try_add<'a>(

@@ -2,10 +2,10 @@
 ghost use Rattle.std.specs.Prelude.{◌≡◌, [], true, false, IfOk, IfErr, OnOk, codes, map};
 ghost use Rattle.clap.specs.Words.{FailsBy, app_of, fault_of, kind_of, matches_of, rule_of, takes};
 ghost use Rattle.command_lines.specs.Rules.{AddsRule, HaveRules};
-ghost use Rattle.command_lines.specs.ServeLine.{HasValues, option, serve_app, words as some_words};
+ghost use Rattle.command_lines.specs.ServeLine.{HasValues, serve_app, serve_app_of, valued, words as some_words};
 
 use crate::arguments::{add, add_choice, add_flag, choice};
-use crate::help::{SERVE_NOTES, VERSION};
+use crate::help::{QUICK_NOTES, SERVE_NOTES, VERSION};
 use clap::error::ErrorKind;
 use clap::{Arg, ArgAction, Command, Error};
 use std::alloc::{AllocError, Global};
@@ -32,56 +32,116 @@ pub struct ServeLine<'a> {
     pub files: Vec<&'a str>,
 }
 
-/// An option that has to stand.
-fn option<'a>(alloc: Global, name: &'a str, value: &'a str, help: &'a str) -> Arg<'a>
-    ensures rule { rule_of result ≡ option name.entry.now }
-    ensures local { result.global ≡ false }
-{
-    choice(alloc, name, value, help).required(true)
+/// What help says of a form of the line, and whether its options of where, by which epoch and how often it serves have to stand.
+#[derive(Clone, Copy)]
+pub(crate) struct Form {
+    required: bool,
+    listen: &'static str,
+    epoch: &'static str,
+    connections: &'static str,
+    file: &'static str,
+    files: &'static str,
+    notes: &'static str,
 }
 
-fn files<'a>(alloc: Global) -> Arg<'a>
+/// The full form.
+const FULL: Form = Form {
+    required: true,
+    listen: "Where to listen (no default)",
+    epoch: "A number greater than at each earlier start, 0 to 4294967295 (no default)",
+    connections: "How many connections to serve in all, 1 to 4294967295 (no default)",
+    file: "NAME=PATH",
+    files: "A file and the name that it is published under; 1 to 64 names, files of 1 to 67108864 bytes",
+    notes: SERVE_NOTES,
+};
+
+/// The form in which each option may be left out.
+pub(crate) const QUICK: Form = Form {
+    required: false,
+    listen: "Where to listen (default 127.0.0.1:8080)",
+    epoch: "A number greater than at each earlier start, 0 to 4294967295 (default: the seconds since 1970)",
+    connections: "How many connections to serve in all, 1 to 4294967295 (default 4294967295)",
+    file: "FILE",
+    files: "A file, which is published under its own name, or NAME=PATH; 1 to 64 names, files of 1 to 67108864 bytes",
+    notes: QUICK_NOTES,
+};
+
+/// An option with one value, which has to stand or may be left out.
+fn valued<'a>(
+    alloc: Global,
+    required: bool,
+    name: &'a str,
+    value: &'a str,
+    help: &'a str,
+) -> Arg<'a>
+    ensures rule { rule_of result ≡ valued required name.entry.now }
+    ensures local { result.global ≡ false }
+{
+    choice(alloc, name, value, help).required(required)
+}
+
+fn files<'a>(alloc: Global, value: &'a str, help: &'a str) -> Arg<'a>
     ensures rule { rule_of result ≡ some_words (codes "files") }
     ensures local { result.global ≡ false }
 {
     Arg::new(alloc, "files")
-        .value_name("NAME=PATH")
-        .help(
-            "A file and the name that it is published under; 1 to 64 names, files of 1 to 67108864 bytes",
-        )
+        .value_name(value)
+        .help(help)
         .required(true)
         .action(ArgAction::Append)
 }
 
-/// Adds an option that has to stand.
-fn add_option<'a>(
+/// Adds an option with one value, which has to stand or may be left out.
+fn add_valued<'a>(
     alloc: Global,
     arguments: &mut Vec<Arg<'a>>,
+    required: bool,
     name: &'a str,
     value: &'a str,
     help: &'a str,
 ) -> Result<(), AllocError>
-    ensures { OnOk result (AddsRule arguments.old.items arguments.new.items (option name.entry.now)) }
+    ensures { OnOk result (AddsRule arguments.old.items arguments.new.items (valued required name.entry.now)) }
 {
-    add(arguments, option(alloc, name, value, help))
+    add(arguments, valued(alloc, required, name, value, help))
 }
 
-fn add_files<'a>(alloc: Global, arguments: &mut Vec<Arg<'a>>) -> Result<(), AllocError>
+fn add_files<'a>(
+    alloc: Global,
+    arguments: &mut Vec<Arg<'a>>,
+    value: &'a str,
+    help: &'a str,
+) -> Result<(), AllocError>
     ensures { OnOk result (AddsRule arguments.old.items arguments.new.items (some_words (codes "files"))) }
 {
-    add(arguments, files(alloc))
+    add(arguments, files(alloc, value, help))
 }
 
-fn add_arguments<'a>(alloc: Global, arguments: &mut Vec<Arg<'a>>) -> Result<(), AllocError>
-    ensures { OnOk result (arguments.old.items ≡ [] → HaveRules arguments.new.items serve_app.top.rules) }
+fn add_arguments<'a>(
+    alloc: Global,
+    arguments: &mut Vec<Arg<'a>>,
+    form: Form,
+) -> Result<(), AllocError>
+    ensures { OnOk result (arguments.old.items ≡ [] → HaveRules arguments.new.items (serve_app_of form.required).top.rules) }
 {
-    let help = "Where to listen (no default)";
-    add_option(alloc, arguments, "listen", "HOST:PORT", help)?;
-    let help = "A number greater than at each earlier start, 0 to 4294967295 (no default)";
-    add_option(alloc, arguments, "epoch", "N", help)?;
-    let help = "How many connections to serve in all, 1 to 4294967295 (no default)";
-    add_option(alloc, arguments, "connections", "N", help)?;
-    add_files(alloc, arguments)?;
+    let required = form.required;
+    add_valued(
+        alloc,
+        arguments,
+        required,
+        "listen",
+        "HOST:PORT",
+        form.listen,
+    )?;
+    add_valued(alloc, arguments, required, "epoch", "N", form.epoch)?;
+    add_valued(
+        alloc,
+        arguments,
+        required,
+        "connections",
+        "N",
+        form.connections,
+    )?;
+    add_files(alloc, arguments, form.file, form.files)?;
     let help = "How many connections at once, 1 to 10000 (default 256)";
     add_choice(alloc, arguments, "at-once", "N", help)?;
     let help =
@@ -99,15 +159,16 @@ fn add_arguments<'a>(alloc: Global, arguments: &mut Vec<Arg<'a>>) -> Result<(), 
     add_flag(alloc, arguments, "log", help)
 }
 
-fn serve_command<'a>(alloc: Global) -> Result<Command<'a>, AllocError>
-    ensures { IfOk result (λ command. app_of command ≡ serve_app) }
+/// The command that reads lines of a form.
+pub(crate) fn serve_command<'a>(alloc: Global, form: Form) -> Result<Command<'a>, AllocError>
+    ensures { IfOk result (λ command. app_of command ≡ serve_app_of form.required) }
 {
     let mut arguments = Vec::new(alloc);
-    add_arguments(alloc, &mut arguments)?;
+    add_arguments(alloc, &mut arguments, form)?;
     Command::new(alloc, "cogserve")
         .about("Serves files over HTTP by single byte ranges")
         .version(VERSION)
-        .after_help(SERVE_NOTES)
+        .after_help(form.notes)
         .args(arguments)
 }
 
@@ -118,7 +179,7 @@ pub fn serve_line<'a, S: AsStr>(alloc: Global, words: &'a [S]) -> Result<ServeLi
     // Words that clap refuses are refused as it does.
     ensures kinds { FailsBy (fault_of serve_app (map S.text words.entry.now)) result }
 {
-    let command = serve_command(alloc)?;
+    let command = serve_command(alloc, FULL)?;
     let matches = command.try_get_matches_from(words)?;
     let listen = matches.get_str("listen").unwrap();
     let epoch = matches.get_str("epoch").unwrap();

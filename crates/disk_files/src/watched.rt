@@ -134,25 +134,25 @@ impl<'a> Watched<'a> {
     pub fn new(name: &'a str, path: &'a str) -> Watched<'a>
         ensures name { result.name ≡ name.entry }
         ensures path { result.path ≡ path.entry }
+        ensures verify { verify_of result ≡ None }
+    {
+        Watched::verified(name, path, None)
+    }
+
+    /// A file that wasn't read yet. With `verify` its bytes are compared also where the disk says the same of it as before, once so many
+    /// milliseconds have passed since they were last read. So a change through a mapping, which moves no time, is seen.
+    pub fn verified(name: &'a str, path: &'a str, verify: Option<u64>) -> Watched<'a>
+        ensures name { result.name ≡ name.entry }
+        ensures path { result.path ≡ path.entry }
+        ensures verify { verify_of result ≡ verify }
     {
         Watched {
             name,
             path,
             seen: None,
-            verify: None,
+            verify,
             compared: 0,
         }
-    }
-
-    /// Has the bytes compared also where the disk says the same of the file as before, once `millis` milliseconds have passed since they were
-    /// last read. So a change through a mapping, which moves no time, is seen.
-    pub fn verify_each(&mut self, millis: u64)
-        ensures verify { verify_of self.new ≡ Some millis }
-        ensures seen { seen_of self.new ≡ seen_of self.old }
-        ensures name { self.new.name ≡ self.old.name }
-        ensures path { self.new.path ≡ self.old.path }
-    {
-        self.verify = Some(millis);
     }
 
     /// Returns whether the bytes are to be compared at moment `now`, though the disk says the same of the file as before.

@@ -1,2 +1,2 @@
 mod FileLemmas
-mod WordLemmas
+mod NamedLemmas

@@ -1,4 +1,5 @@
 pub mod Files
+pub mod NamedFiles
 pub mod Number
 pub mod Origins
 pub mod Printed

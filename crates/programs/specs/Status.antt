@@ -7,8 +7,8 @@ use Rattle.scripts.specs.declared.line.ScriptError.TheVariants as script
 use Rattle.read_command.specs.declared.error.ReadError.{ReadError}
 use Rattle.read_command.specs.declared.error.ReadError.TheVariants as reading
 use Rattle.programs.specs.declared.exit.Exit.{Exit}
-use Rattle.programs.specs.declared.exit.Exit.TheVariants.{NotText, NotAProgram, CommandLine, NotANumber, NotAFile, NotAnOrigin, Script}
-use Rattle.programs.specs.declared.exit.Exit.TheVariants.{RefusedClient, NotAFileUrl, OfFile, NoReport, CantRead, Refused, CantListen, CantAccept, CantWait, CantWrite, CantWriteFile, Memory}
+use Rattle.programs.specs.declared.exit.Exit.TheVariants.{NotText, NotAProgram, CommandLine, NotANumber, NotAFile, NotAnOrigin, OneName, NoClock, Script}
+use Rattle.programs.specs.declared.exit.Exit.TheVariants.{RefusedClient, NotAFileUrl, OfFile, NoReport, CantRead, Refused, CantListen, CantAccept, CantWait, CantWrite, CantWriteFile, Memory, ReaderGone}
 
 -- 0 where help or the version is asked for, and 2 where the words aren't the program's
 abbrev pub line_status : ErrorKind → ℕ
@@ -25,6 +25,7 @@ HasStatus (CommandLine error) n = n ≡ line_status (kind_of error)
 HasStatus (NotANumber word) n = n ≡ 2
 HasStatus (NotAFile word) n = n ≡ 2
 HasStatus (NotAnOrigin word) n = n ≡ 2
+HasStatus (OneName name first second) n = n ≡ 2
 HasStatus (RefusedClient refusal) n = n ≡ 2
 HasStatus (NotAFileUrl word error) n = n ≡ 2
 HasStatus (OfFile fault) n = n ≡ 3
@@ -34,10 +35,12 @@ HasStatus (Script (script.CantRead line)) n = n ≡ 1
 HasStatus (Script script.Memory) n = n ≡ 1
 HasStatus (CantRead path) n = n ≡ 1
 HasStatus (Refused refusal name) n = n ≡ 1
+HasStatus NoClock n = n ≡ 1
 HasStatus CantListen n = n ≡ 1
 HasStatus CantAccept n = n ≡ 1
 HasStatus CantWait n = n ≡ 1
 HasStatus CantWrite n = n ≡ 1
+HasStatus ReaderGone n = n ≡ 1
 HasStatus (CantWriteFile path) n = n ≡ 1
 HasStatus Memory n = n ≡ 1
 

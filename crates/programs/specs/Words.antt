@@ -1,9 +1,6 @@
 -- What the words of `cogread` ask for, and the numbers of its options and of `cogserve`'s.
-use Rattle.std.specs.Prelude.{◌≡◌, ◌⊎◌, ℕ, ◌^◌, ◌-◌, true, false, if◌then◌else◌, List, [], ◌∷◌, Option, Some, None, option_and_then}
-use Rattle.std.specs.Borrow.{Bor}
-use Rattle.std.specs.List.{flat_map}
+use Rattle.std.specs.Prelude.{◌≡◌, ◌⊎◌, ℕ, ◌^◌, ◌-◌, true, false, List, Option, Some, None, IsSome, option_and_then}
 use Rattle.std.specs.Option.{option_copied}
-use Rattle.std.specs.Str.{bytes_eq}
 use Rattle.tiff_dir.specs.declared.query.Query.{Query}
 use Rattle.tiff_dir.specs.declared.query.Query.TheVariants.{Window, Info}
 use Rattle.tiff_dir.specs.declared.query.Pick.{Pick}
@@ -14,7 +11,6 @@ use Rattle.command_lines.specs.declared.read.AskedWords.{AskedWords}
 use Rattle.command_lines.specs.declared.read.AskedWords.TheVariants as words
 use Rattle.command_lines.specs.declared.read.ReadLine.{ReadLine}
 use Rattle.command_lines.specs.declared.read.WindowWords.{WindowWords}
-use Rattle.command_lines.specs.declared.serve.ServeLine.{ServeLine}
 use Rattle.cog_client.specs.declared.error.ClientError.{ClientError}
 use Rattle.programs.specs.declared.exit.Exit.{Exit}
 use Rattle.programs.specs.declared.exit.Exit.TheVariants.{Memory, RefusedClient}
@@ -98,17 +94,18 @@ patience_number word = number_or 1 3600 60 word
 abbrev pub verify_number : Option (List ℕ) → Option ℕ
 verify_number word = number_or 1 86400 0 word
 
--- a word of the line that says something of connections is no number within its bounds
-abbrev pub HasNoLimit : ServeLine → Type 0
-HasNoLimit line = (connections_number line.connections.now ≡ None) ⊎ (at_once_number (option_copied line.at_once) ≡ None)
-    ⊎ (patience_number (option_copied line.patience) ≡ None)
+-- a word that says something of connections is no number within its bounds
+abbrev pub HasNoLimit : (connections : List ℕ) (at_once patience : Option (List ℕ)) → Type 0
+HasNoLimit connections at_once patience = (connections_number connections ≡ None) ⊎ (at_once_number at_once ≡ None)
+    ⊎ (patience_number patience ≡ None)
+
+-- the epoch that a word gives, where one stands
+abbrev pub IsGiven : Option (List ℕ) → Option ℕ → Type 0
+IsGiven None given = given ≡ None
+IsGiven (Some word) given = (number_32 word ≡ given) × IsSome given
 
 -- No client is made of a server and a name: they are refused for this, or memory is wanting where nothing stands against them.
 abbrev pub IsNoClient : Option ClientError → Exit → Type 0
 IsNoClient refusal (RefusedClient error) = refusal ≡ Some error
 IsNoClient refusal Memory = refusal ≡ None
 IsNoClient refusal fault = ⊥
-
--- the words, with a server and a name in the place of each that is this URL
-abbrev pub named_by : (url server name : List ℕ) → List (Bor (List ℕ)) → List (List ℕ)
-named_by url server name words = flat_map (λ word. if bytes_eq word.now url then server ∷ name ∷ [] else word.now ∷ []) words

@@ -1,32 +1,36 @@
 //! `cogread`: reads a window, the info or a description of a file over sockets.
-ghost use Rattle.std.specs.Prelude.{◌≡◌, IfErr, IfOk, OnErr, Some, map, string_bytes};
+ghost use Rattle.std.specs.Prelude.{◌≡◌, ◌<◌, IfErr, IfOk, OnErr, Some, length};
 ghost use Rattle.std.specs.Option.{option_copied};
 ghost use Rattle.cog_client.specs.Calls.{Starts};
 ghost use Rattle.cog_client.specs.Client.{client_refusal};
 ghost use Rattle.programs.specs.Number.{IsOfNumber};
-ghost use Rattle.programs.specs.Words.{AsksNothing, HasNoNumber, IsAsked, IsNoClient, IsNoPick, IsNoWindow, IsPick, IsWindow, ahead_number, blocks_number, named_by, requests_number};
+ghost use Rattle.programs.specs.Words.{AsksNothing, HasNoNumber, IsAsked, IsNoClient, IsNoPick, IsNoWindow, IsPick, IsWindow, ahead_number, blocks_number, requests_number};
 
 use crate::exit::Exit;
+use crate::local;
+use crate::local::{is_plain_file, server_of_file, source_of};
 use crate::number::{number, number_or};
-use clap::error::ErrorKind;
 use client_sockets::Socket;
-use cog_client::{Client, ClientError, Query};
+use cog_client::{Client, ClientError, Pieces, Query};
 use command_lines::{
-    AskedWords, FileUrl, FileUrlError, ReadLine, WindowWords, file_url, is_url, read_line,
+    AskedWords, FileUrl, FileUrlError, FileWord, ReadLine, WindowWords, file_url, file_word,
+    is_url, read_line, words_instead,
 };
 use disk_files::replace_file;
 use range_cache::{MAX_CAPACITY, MIN_CAPACITY};
 use read_command::{Asked, Exchanges, ReadError, Text, Verbosity};
 use read_progress::{Noted, NotedNet, RefusalSentence};
-use std::alloc::{AllocError, Global};
 use std::io;
 use std::net::{Net, TcpStream};
 use std::rt::{Clock, Files};
 use text_description::Form;
 use tiff_dir::Pick;
 
-/// How many blocks are asked for early where a URL names the file.
+/// How many blocks are asked for early where a URL or a path names the file.
 const AHEAD_OF_A_URL: &str = "64";
+
+/// How many requests are made at most of a file of the disk, which loses none.
+const REQUESTS_OF_A_FILE: &str = "65536";
 
 /// What a line asks for, by its numbers.
 #[derive(Clone, Copy)]
@@ -142,10 +146,25 @@ where
         client.keep_open();
         socket.keep_open();
     }
-    let mut noted = Noted::new(rt.alloc(), socket);
+    text_of_source(rt, &net, line, numbers, client, socket)
+}
+
+/// What a line asks for, over a source of answers.
+fn text_of_source<'c, R, P: Pieces + Drop>(
+    rt: &R,
+    net: &NotedNet<'_, R>,
+    line: &ReadLine<'_>,
+    numbers: Numbers,
+    client: &'c mut Client,
+    source: P,
+) -> Result<Text<'c>, ReadError>
+where
+    R: Clock + Eprint + AllocGlobal,
+{
+    let mut noted = Noted::new(rt.alloc(), source);
     let exchanges = Exchanges {
         rt,
-        net: &net,
+        net,
         requests: numbers.requests,
         verbosity: telling_of(line),
     };
@@ -172,88 +191,85 @@ where
     }
 }
 
-/// Reads what a line asks for, and writes it.
+/// Reads what a line asks for over sockets, and writes it.
 fn run_read<R>(rt: &R, line: &ReadLine<'_>) -> Result<(), Exit>
 where
     R: Files + Clock + Print + Eprint + AllocGlobal + Net<Stream = TcpStream>,
 {
     let numbers = numbers_of(rt, line)?;
     let mut client = client_of(rt, line, numbers.blocks)?;
-    read_with(rt, line, numbers, &mut client)
-}
-
-/// Reads with a client what a line asks for, and writes it.
-fn read_with<R>(
-    rt: &R,
-    line: &ReadLine<'_>,
-    numbers: Numbers,
-    client: &mut Client,
-) -> Result<(), Exit>
-where
-    R: Files + Clock + Print + Eprint + AllocGlobal + Net<Stream = TcpStream>,
-{
-    let text = text_of_line(rt, line, numbers, client)?;
+    let text = text_of_line(rt, line, numbers, &mut client)?;
     write_text(rt, line, &text)
 }
 
-/// The words with a server and a name in the place of their URL.
-fn named_words(
-    alloc: Global,
-    words: &[&str],
-    url: &str,
-    place: &FileUrl<'_>,
-) -> Result<Vec<String>, AllocError>
-    ensures { IfOk result (λ named. map string_bytes named.items
-        ≡ named_by url.now (string_bytes place.now.server) place.now.name.now words.now) }
+/// Reads what a line asks for of the file of the disk at a path, and writes it.
+fn run_local<R>(rt: &R, line: &ReadLine<'_>, path: &str) -> Result<(), Exit>
+where
+    R: Files + Clock + Print + Eprint + AllocGlobal + Net<Stream = TcpStream>,
 {
-    let mut named = Vec::new(alloc);
-    for word in words {
-        if *word == url {
-            named.push(String::from_str(alloc, place.server.as_str())?)?;
-            named.push(String::from_str(alloc, place.name)?)?;
-        } else {
-            named.push(String::from_str(alloc, word)?)?;
-        }
-    }
-    Ok(named)
+    let numbers = numbers_of(rt, line)?;
+    let mut client = client_of(rt, line, numbers.blocks)?;
+    client.look_ahead(numbers.ahead);
+    let server = server_of_file(rt, path)?;
+    let source = source_of(rt.alloc(), &server);
+    let net = NotedNet::new(rt);
+    let text = text_of_source(rt, &net, line, numbers, &mut client, source)?;
+    write_text(rt, line, &text)
 }
 
-/// The first word that is a URL.
-fn url_among<'a>(words: &[&'a str]) -> Option<&'a str> {
-    for word in words {
-        if is_url(word) {
-            return Some(word);
-        }
-    }
-    None
-}
-
-/// The URL among words that clap refuses: where some are missing, it may stand for them, a server and a name.
-fn url_for_missing<'a>(refusal: &clap::Error, words: &[&'a str]) -> Option<&'a str> {
-    if refusal.kind() != ErrorKind::MissingRequiredArgument {
-        return None;
-    }
-    url_among(words)
-}
-
-/// The words with the server and the name of a URL in its place.
-fn words_of_url<R: AllocGlobal>(rt: &R, words: &[&str], url: &str) -> Result<Vec<String>, Exit> {
+/// Returns the file that a URL names.
+fn place_of<'a, R: AllocGlobal>(rt: &R, url: &'a str) -> Result<FileUrl<'a>, Exit> {
     match file_url(rt.alloc(), url) {
-        Ok(place) => Ok(named_words(rt.alloc(), words, url, &place)?),
+        Ok(place) => Ok(place),
         Err(FileUrlError::Memory) => Err(Exit::Memory),
         Err(error) => Err(Exit::NotAFileUrl(String::from_str(rt.alloc(), url)?, error)),
     }
 }
 
-/// Runs the program on words of which one is this URL, which stands for a server and a name. Its connection is kept, and it looks ahead.
-fn run_url<R>(rt: &R, words: &[&str], url: &str) -> Result<(), Exit>
+/// Runs the program on words of which one is a URL, which stands for a server and a name, and for `describe` where it is alone. Its
+/// connection is kept, and it looks ahead.
+fn run_url<R>(rt: &R, words: &[&str], index: usize, is_alone: bool) -> Result<(), Exit>
 where
     R: Files + Clock + Print + Eprint + AllocGlobal + Net<Stream = TcpStream>,
+    requires { index < length words.now }
 {
-    let named = words_of_url(rt, words, url)?;
+    let place = place_of(rt, words[index])?;
+    let instead = ["describe", place.server.as_str(), place.name];
+    let skipped = if is_alone { 0 } else { 1 };
+    let named = words_instead(rt.alloc(), words, index, &instead[skipped..])?;
     let mut line = read_line(rt.alloc(), &named)?;
     line.keep = !line.close;
     line.ahead = line.ahead.or(Some(AHEAD_OF_A_URL));
+    run_read(rt, &line)
+}
+
+/// Runs the program on words of which one stands for a server and a name: a URL, or the path of a file of the disk. A word that is
+/// neither is refused as the other forms refuse it.
+fn run_single<R>(rt: &R, words: &[&str], index: usize) -> Result<(), Exit>
+where
+    R: Files + Clock + Print + Eprint + AllocGlobal + Net<Stream = TcpStream>,
+    requires { index < length words.now }
+{
+    if is_url(words[index]) {
+        return run_url(rt, words, index, false);
+    }
+    if is_plain_file(rt, words[index]) {
+        let instead = [local::SERVER, local::NAME];
+        let named = words_instead(rt.alloc(), words, index, &instead)?;
+        let mut line = read_line(rt.alloc(), &named)?;
+        line.ahead = line.ahead.or(Some(AHEAD_OF_A_URL));
+        line.requests = line.requests.or(Some(REQUESTS_OF_A_FILE));
+        return run_local(rt, &line, words[index]);
+    }
+    run_named(rt, words)
+}
+
+/// Runs the program on words that name a server and a name.
+fn run_named<R>(rt: &R, words: &[&str]) -> Result<(), Exit>
+where
+    R: Files + Clock + Print + Eprint + AllocGlobal + Net<Stream = TcpStream>,
+{
+    let line = read_line(rt.alloc(), words)?;
     run_read(rt, &line)
 }
 
@@ -262,11 +278,9 @@ pub fn run_line<R>(rt: &R, words: &[&str]) -> Result<(), Exit>
 where
     R: Files + Clock + Print + Eprint + AllocGlobal + Net<Stream = TcpStream>,
 {
-    match read_line(rt.alloc(), words) {
-        Ok(line) => run_read(rt, &line),
-        Err(refusal) => match url_for_missing(&refusal, words) {
-            Some(url) => run_url(rt, words, url),
-            None => Err(Exit::from(refusal)),
-        },
+    match file_word(rt.alloc(), words)? {
+        FileWord::Alone(index) if index < words.len() => run_url(rt, words, index, true),
+        FileWord::Single(index) if index < words.len() => run_single(rt, words, index),
+        _ => run_named(rt, words),
     }
 }

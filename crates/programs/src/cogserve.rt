@@ -1,17 +1,17 @@
 //! `cogserve`: publishes files of the disk and serves them over many connections at once.
-ghost use Rattle.std.specs.Prelude.{◌≡◌, ◌*◌, ◌++◌, ◌∷◌, [], IfErr, IfOk, None, OnErr, OnOk, Some, option_map};
+ghost use Rattle.std.specs.Prelude.{◌≡◌, ◌*◌, ◌++◌, ◌∷◌, [], IfErr, IfOk, None, Ok, OnErr, OnOk, Some, option_map, ◌==◌, if◌then◌else◌};
 ghost use Rattle.std.specs.Int.NonZero.{non_zero_usize_get};
 ghost use Rattle.std.specs.Option.{option_copied};
 ghost use Rattle.programs.specs.Files.{AreFiles, IsFile, IsNoFile, IsOfFiles, NamesFile, NamesOneOf};
 ghost use Rattle.programs.specs.Number.{IsOfNumber, Names};
-ghost use Rattle.programs.specs.Origins.{IsOriginOrNone, NamesNoOrigin};
 ghost use Rattle.programs.specs.Words.{HasNoLimit, at_once_number, connections_number, number_32, patience_number, verify_number};
 
 use crate::exit::Exit;
 use crate::number::{number, number_or};
-use crate::origin::check_origin;
+use crate::origin::additions_of;
+use crate::quick;
 use cog_server::{Additions, PublishError, Server};
-use command_lines::{ServeLine, serve_line};
+use command_lines::{ServeLine, StartLine, start_line};
 use disk_files::{WatchError, Watched};
 use server_files::{
     AccessLog, NotPublished, ServeFilesError, listen, publish_all, serve_connections,
@@ -23,7 +23,7 @@ use std::net::{Net, TcpListener, TcpStream};
 use std::num::NonZeroUsize;
 use std::rt::{Clock, Files};
 
-/// Runs the program on its words, of which the first is its own name.
+/// Runs the program on its words, of which the first is its own name. The word `help` alone asks for help.
 pub fn run_line<R>(rt: &R, words: &[&str]) -> Result<(), Exit>
 where
     R: Files
@@ -33,28 +33,71 @@ where
         + AllocGlobal
         + Net<Listener = TcpListener, Stream = TcpStream>,
 {
-    let line = serve_line(rt.alloc(), words)?;
-    let mut server = server_of(rt, &line)?;
-    let limits = limits_of(rt, &line)?;
-    let _ = verify_of(rt, &line)?;
-    let additions = additions_of(rt, &line)?;
-    let mut files = files_of(rt, &line.files)?;
+    if words.len() == 2 && words[1] == "help" {
+        run_form(rt, &[words[0], "--help"])
+    } else {
+        run_form(rt, words)
+    }
+}
+
+/// Runs the program on words of one of its forms.
+fn run_form<R>(rt: &R, words: &[&str]) -> Result<(), Exit>
+where
+    R: Files
+        + Clock
+        + Print
+        + Eprint
+        + AllocGlobal
+        + Net<Listener = TcpListener, Stream = TcpStream>,
+{
+    match start_line(rt.alloc(), words)? {
+        StartLine::Full(line) => run_full(rt, &line),
+        StartLine::Quick(line) => quick::run(rt, &line),
+    }
+}
+
+/// Runs the program on a line of the full form.
+fn run_full<R>(rt: &R, line: &ServeLine<'_>) -> Result<(), Exit>
+where
+    R: Files
+        + Clock
+        + Print
+        + Eprint
+        + AllocGlobal
+        + Net<Listener = TcpListener, Stream = TcpStream>,
+{
+    let mut server = server_of(rt, line)?;
+    let limits = limits_of(rt, line.connections, line.at_once, line.patience)?;
+    let verify = millis_of(verify_of(rt, line.verify)?);
+    let additions = additions_of(rt, line.allow_origin, line.announce_last)?;
+    let mut files = files_of(rt, &line.files, verify)?;
     let mut log = AccessLog {
         rt,
         is_kept: line.log,
     };
-    match serve(
+    let served = serve(
         &mut log,
         line.listen,
         &mut server,
         &mut files,
         limits,
         additions,
-    ) {
-        Ok(()) => Ok(()),
+    );
+    ended(&log, served)
+}
+
+/// Logs the error of what ends the program, and makes its fault.
+pub(crate) fn ended<R: Clock + Eprint + AllocGlobal, T: Drop>(
+    log: &AccessLog<'_, R>,
+    outcome: Result<T, ServeFilesError<'_>>,
+) -> Result<T, Exit>
+    ensures { IfOk outcome (λ value. result ≡ Ok value) }
+{
+    match outcome {
+        Ok(value) => Ok(value),
         Err(error) => {
             log.print(&error);
-            Err(exit_of(rt, error)?)
+            Err(exit_of(log.rt, error)?)
         }
     }
 }
@@ -94,19 +137,24 @@ fn server_of<R: AllocGlobal>(rt: &R, line: &ServeLine<'_>) -> Result<Server, Exi
 }
 
 /// What the words say of connections: 256 at once, and a patience of 60 seconds, where they don't.
-fn limits_of<R: AllocGlobal>(rt: &R, line: &ServeLine<'_>) -> Result<Limits, Exit>
-    ensures connections { IfOk result (λ limits. connections_number line.now.connections.now ≡ Some limits.connections) }
-    ensures at_once { IfOk result (λ limits. at_once_number (option_copied line.now.at_once)
+pub(crate) fn limits_of<R: AllocGlobal>(
+    rt: &R,
+    connections: &str,
+    at_once: Option<&str>,
+    patience: Option<&str>,
+) -> Result<Limits, Exit>
+    ensures connections { IfOk result (λ limits. connections_number connections.now ≡ Some limits.connections) }
+    ensures at_once { IfOk result (λ limits. at_once_number (option_copied at_once.entry)
         ≡ Some (non_zero_usize_get limits.at_once)) }
     // In milliseconds.
-    ensures patience { IfOk result (λ limits. option_map (λ seconds. seconds * 1000) (patience_number (option_copied line.now.patience))
+    ensures patience { IfOk result (λ limits. option_map (λ seconds. seconds * 1000) (patience_number (option_copied patience.entry))
         ≡ Some limits.patience) }
-    ensures err { OnErr result (HasNoLimit line.now) }
+    ensures err { OnErr result (HasNoLimit connections.now (option_copied at_once.entry) (option_copied patience.entry)) }
     ensures kinds { IfErr result IsOfNumber }
 {
-    let connections = number(rt, line.connections, 1, u32::MAX)?;
-    let at_once = number_or(rt, line.at_once, 1, 10_000, 256)?;
-    let patience = number_or(rt, line.patience, 1, 3_600, 60)?;
+    let connections = number(rt, connections, 1, u32::MAX)?;
+    let at_once = number_or(rt, at_once, 1, 10_000, 256)?;
+    let patience = number_or(rt, patience, 1, 3_600, 60)?;
     Ok(Limits {
         connections,
         at_once: NonZeroUsize::new(at_once as usize).unwrap_or(NonZeroUsize::MIN),
@@ -114,51 +162,56 @@ fn limits_of<R: AllocGlobal>(rt: &R, line: &ServeLine<'_>) -> Result<Limits, Exi
     })
 }
 
-/// Returns what the words add to answers.
-fn additions_of<'a, R: AllocGlobal>(rt: &R, line: &ServeLine<'a>) -> Result<Additions<'a>, Exit>
-    ensures origin { IfOk result (λ added. option_copied added.origin ≡ option_copied line.now.allow_origin) }
-    ensures checked { OnOk result (IsOriginOrNone (option_copied line.now.allow_origin)) }
-    ensures last { IfOk result (λ added. added.announces_last ≡ line.now.announce_last) }
-    ensures told { IfErr result (NamesNoOrigin (option_copied line.now.allow_origin)) }
+/// Returns how many milliseconds pass at least before the bytes of a file that seems unchanged are compared again; `None` where they never are.
+pub(crate) fn millis_of(seconds: u32) -> Option<u64>
+    ensures { result ≡ (if seconds == 0 then None else Some (seconds * 1000)) }
 {
-    check_origin(rt, line.allow_origin)?;
-    Ok(Additions {
-        origin: line.allow_origin.map(|origin| origin.as_bytes()),
-        announces_last: line.announce_last,
-    })
+    if seconds == 0 {
+        None
+    } else {
+        Some(u64::from(seconds) * 1000)
+    }
 }
 
 /// How many seconds pass at least before the bytes of files that seem unchanged are compared again; 0 where they never are.
-fn verify_of<R: AllocGlobal>(rt: &R, line: &ServeLine<'_>) -> Result<u32, Exit>
-    ensures ok { IfOk result (λ seconds. verify_number (option_copied line.now.verify) ≡ Some seconds) }
-    ensures err { OnErr result (verify_number (option_copied line.now.verify) ≡ None) }
+pub(crate) fn verify_of<R: AllocGlobal>(rt: &R, word: Option<&str>) -> Result<u32, Exit>
+    ensures ok { IfOk result (λ seconds. verify_number (option_copied word.entry) ≡ Some seconds) }
+    ensures err { OnErr result (verify_number (option_copied word.entry) ≡ None) }
     ensures kinds { IfErr result IsOfNumber }
 {
-    number_or(rt, line.verify, 1, 86_400, 0)
+    number_or(rt, word, 1, 86_400, 0)
 }
 
 /// The file that a word names as `NAME=PATH`, cut at the first `=`.
-fn file_of<'a, R: AllocGlobal>(rt: &R, word: &'a str) -> Result<Watched<'a>, Exit>
+fn file_of<'a, R: AllocGlobal>(
+    rt: &R,
+    word: &'a str,
+    verify: Option<u64>,
+) -> Result<Watched<'a>, Exit>
     ensures ok { IfOk result (IsFile word.entry.now) }
     ensures err { OnErr result (IsNoFile word.entry.now) }
     ensures told { IfErr result (NamesFile word.entry.now) }
     ensures kinds { IfErr result IsOfFiles }
 {
     match word.split_once('=') {
-        Some((name, path)) => Ok(Watched::new(name, path)),
+        Some((name, path)) => Ok(Watched::verified(name, path, verify)),
         None => Err(Exit::NotAFile(String::from_str(rt.alloc(), word)?)),
     }
 }
 
 /// The files that the words name.
-fn files_of<'a, R: AllocGlobal>(rt: &R, words: &[&'a str]) -> Result<Vec<Watched<'a>>, Exit>
+fn files_of<'a, R: AllocGlobal>(
+    rt: &R,
+    words: &[&'a str],
+    verify: Option<u64>,
+) -> Result<Vec<Watched<'a>>, Exit>
     ensures ok { IfOk result (λ files. AreFiles words.now files.items) }
     ensures told { IfErr result (NamesOneOf words.now) }
     ensures kinds { IfErr result IsOfFiles }
 {
     let mut files = Vec::new(rt.alloc());
     for word in words {
-        add_file(&mut files, file_of(rt, word)?)?;
+        add_file(&mut files, file_of(rt, word, verify)?)?;
     }
     Ok(files)
 }

@@ -85,12 +85,16 @@ impl<'w> Command<'w> {
 fn help(alloc: Global, name: &str) -> Result<String, AllocError> {
     format!(in alloc;
         "\
-Usage: {name} cogserve --listen HOST:PORT --epoch N --connections N [--at-once N] [--patience SECONDS] [--log] NAME=PATH..
+Usage: {name} cogserve FILE..
+       {name} cogread http://HOST[:PORT]/NAME
+       {name} cogserve --listen HOST:PORT --epoch N --connections N [--at-once N] [--patience SECONDS] [--log] NAME=PATH..
+       {name} cogserve .. [--allow-origin ORIGIN] [--announce-last] [--verify SECONDS] ..
        {name} cogread window SERVER NAME X Y W H [--level N | --columns C] [--requests N] [--blocks N] [--ahead N] [--keep]
        {name} cogread info SERVER NAME [--requests N] [--blocks N] [--ahead N] [--keep]
        {name} cogread describe SERVER NAME [--json] [--requests N] [--blocks N] [--ahead N] [--keep]
        {name} cogread window .. --whole [--level N] ..
        {name} cogread .. http://HOST[:PORT]/NAME .. [--close]
+       {name} cogread .. FILE ..
        {name} cogread .. [--output FILE] [--verbose | --progress]
        {name} cogworld [--pieces N] SCRIPT
        {name} --version
@@ -155,7 +159,7 @@ where
             let typed = format!(in rt.alloc(); "{name} {word}")?;
             run_program(rt, program, typed.as_str(), rest)
         }
-        Command::Word("-h" | "--help") => Ok(rt.println(help(rt.alloc(), name)?)?),
+        Command::Word("-h" | "--help" | "help") => Ok(rt.println(help(rt.alloc(), name)?)?),
         Command::Word("-V" | "--version") => Ok(println!(rt; "{name} {VERSION}")?),
         Command::Word(word) => Err(Exit::NotAProgram(String::from_str(rt.alloc(), word)?)),
     }

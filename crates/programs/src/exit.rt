@@ -25,6 +25,10 @@ pub enum Exit {
     NotAFile(String),
     /// A word of the command line isn't an origin.
     NotAnOrigin(String),
+    /// Files of these two paths have one name, which is told first.
+    OneName(String, String, String),
+    /// The clock doesn't say what time it is.
+    NoClock,
     Script(ScriptError),
     /// The file at this path can't be read.
     CantRead(String),
@@ -46,6 +50,8 @@ pub enum Exit {
     CantWait,
     /// The standard output can't be written.
     CantWrite,
+    /// Nobody reads the standard output any more, as behind `| head`. Nothing is told then.
+    ReaderGone,
     /// The file at this path can't be written.
     CantWriteFile(String),
     Memory,
@@ -68,6 +74,7 @@ impl Exit {
             | Exit::NotANumber(_)
             | Exit::NotAFile(_)
             | Exit::NotAnOrigin(_)
+            | Exit::OneName(_, _, _)
             | Exit::RefusedClient(_)
             | Exit::NotAFileUrl(_, _)
             | Exit::Script(ScriptError::NotAnEvent(_)) => 2,
@@ -76,10 +83,12 @@ impl Exit {
             Exit::Script(_)
             | Exit::CantRead(_)
             | Exit::Refused(_, _)
+            | Exit::NoClock
             | Exit::CantListen
             | Exit::CantAccept
             | Exit::CantWait
             | Exit::CantWrite
+            | Exit::ReaderGone
             | Exit::CantWriteFile(_)
             | Exit::Memory => 1,
         }
@@ -113,6 +122,7 @@ impl Exit {
     fn print<R: Print + Eprint>(&self, rt: &R, program: &str) -> io::Result<()> {
         match self {
             Exit::CommandLine(error) => error.print(rt),
+            Exit::ReaderGone => Ok(()),
             fault => rt.eprintln(ExitLine { program, fault }),
         }
     }
@@ -137,6 +147,11 @@ impl fmt::Display for ExitLine<'_> {
             Exit::NotANumber(word) => write!(f, "{program}: not a number: {word}"),
             Exit::NotAFile(word) => write!(f, "{program}: not a file: {word}"),
             Exit::NotAnOrigin(word) => write!(f, "{program}: not an origin: {word}"),
+            Exit::OneName(name, first, second) => write!(
+                f,
+                "{program}: one name for two files: {name}: {first}, {second}. Name one of them: NAME=PATH"
+            ),
+            Exit::NoClock => write!(f, "{program}: no clock: give --epoch N"),
             Exit::CantRead(path) => write!(f, "{program}: can't read {path}"),
             Exit::Refused(refusal, name) => {
                 write!(f, "{program}: refused {} {name}", refusal.number())
@@ -151,7 +166,7 @@ impl fmt::Display for ExitLine<'_> {
             Exit::CantListen => write!(f, "{program}: can't listen"),
             Exit::CantAccept => write!(f, "{program}: can't accept"),
             Exit::CantWait => write!(f, "{program}: can't wait"),
-            Exit::CantWrite => write!(f, "{program}: can't write"),
+            Exit::CantWrite | Exit::ReaderGone => write!(f, "{program}: can't write"),
             Exit::CantWriteFile(path) => write!(f, "{program}: can't write {path}"),
             Exit::Script(ScriptError::Memory) | Exit::Memory => {
                 write!(f, "{program}: out of memory")
@@ -211,15 +226,17 @@ impl From<ScriptError> for Exit {
 impl From<io::Error> for Exit {
     ghost use Rattle.std.specs.Prelude.{◌≡◌, ◌≢◌};
     ghost use Rattle.std.specs.IoError.{error_kind};
-    ghost use Rattle.std.specs.declared.io.ErrorKind.TheVariants.{OutOfMemory};
-    ghost use Rattle.programs.specs.declared.exit.Exit.TheVariants.{CantWrite, Memory};
+    ghost use Rattle.std.specs.declared.io.ErrorKind.TheVariants.{BrokenPipe, OutOfMemory};
+    ghost use Rattle.programs.specs.declared.exit.Exit.TheVariants.{CantWrite, Memory, ReaderGone};
 
     ghost from_gives = { λ error fault. (error_kind error ≡ OutOfMemory → fault ≡ Memory)
-        × (error_kind error ≢ OutOfMemory → fault ≡ CantWrite) };
+        × (error_kind error ≡ BrokenPipe → fault ≡ ReaderGone)
+        × (error_kind error ≢ OutOfMemory → error_kind error ≢ BrokenPipe → fault ≡ CantWrite) };
 
     fn from(error: io::Error) -> Exit {
         match error.kind() {
             io::ErrorKind::OutOfMemory => Exit::Memory,
+            io::ErrorKind::BrokenPipe => Exit::ReaderGone,
             _ => Exit::CantWrite,
         }
     }

@@ -7,8 +7,10 @@ mod cogworld;
 mod command;
 mod disk;
 mod exit;
+mod local;
 mod number;
 mod origin;
+mod quick;
 mod stored;
 
 pub use cogworld::write_log;

@@ -1,42 +1,44 @@
-//! The origins whose pages may read files in a browser.
-ghost use Rattle.std.specs.Prelude.{◌≡◌, IfErr, OnErr, OnOk};
-ghost use Rattle.std.specs.List.{list_all};
+//! What `cogserve` adds to its answers: the origins whose pages may read files in a browser, and that an answer is the last.
+ghost use Rattle.std.specs.Prelude.{◌≡◌, IfErr, IfOk, OnOk};
 ghost use Rattle.std.specs.Option.{option_copied};
-ghost use Rattle.programs.specs.Origins.{IsOriginOrNone, NamesNoOrigin, is_origin, is_visible};
+ghost use Rattle.programs.specs.Origins.{IsOriginOrNone, NamesNoOrigin};
 
 use crate::exit::Exit;
-
-/// The most bytes of an origin.
-const MAX_ORIGIN: usize = 255;
-
-fn is_visible(b: u8) -> bool
-    ensures { result ≡ is_visible b }
-{
-    b >= b'!' && b <= b'~'
-}
-
-fn are_visible(word: &[u8]) -> bool
-    ensures { result ≡ list_all is_visible word.now }
-{
-    word.iter().all(|b| is_visible(*b))
-}
-
-/// Returns whether a word is an origin: 1 to 255 visible bytes. One of these is `*`, which stands for any origin.
-fn is_origin(word: &[u8]) -> bool
-    ensures { result ≡ is_origin word.now }
-{
-    !word.is_empty() && word.len() <= MAX_ORIGIN && are_visible(word)
-}
+use cog_server::Additions;
+use command_lines::is_origin;
 
 /// Fails with `NotAnOrigin` where a word stands that is no origin.
-pub fn check_origin<R: AllocGlobal>(rt: &R, word: Option<&str>) -> Result<(), Exit>
+fn check_origin<R: AllocGlobal>(rt: &R, word: Option<&str>) -> Result<(), Exit>
     ensures ok { OnOk result (IsOriginOrNone (option_copied word.entry)) }
     ensures told { IfErr result (NamesNoOrigin (option_copied word.entry)) }
 {
     match word {
-        Some(word) if !is_origin(word.as_bytes()) => {
+        Some(word) if !is_origin(word) => {
             Err(Exit::NotAnOrigin(String::from_str(rt.alloc(), word)?))
         }
         _ => Ok(()),
     }
+}
+
+/// Returns what is added to answers: the fields for `origin`, and whether the last answer of a connection says so. Fails with `NotAnOrigin`
+/// where `origin` is none.
+pub fn additions_of<'a, R: AllocGlobal>(
+    rt: &R,
+    origin: Option<&'a str>,
+    announces_last: bool,
+) -> Result<Additions<'a>, Exit>
+    ensures origin { IfOk result (λ added. option_copied added.origin ≡ option_copied origin.entry) }
+    ensures checked { OnOk result (IsOriginOrNone (option_copied origin.entry)) }
+    ensures last { IfOk result (λ added. added.announces_last ≡ announces_last) }
+    ensures told { IfErr result (NamesNoOrigin (option_copied origin.entry)) }
+{
+    check_origin(rt, origin)?;
+    let origin = match origin {
+        Some(origin) => Some(origin.as_bytes()),
+        None => None,
+    };
+    Ok(Additions {
+        origin,
+        announces_last,
+    })
 }

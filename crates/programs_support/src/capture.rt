@@ -65,7 +65,7 @@ impl<R: AllocGlobal> Print for Capture<'_, R> {
 
     fn write_all(&self, bytes: &[u8]) -> io::Result<()> {
         if self.is_closed {
-            return Err(io::Error::from(io::ErrorKind::BrokenPipe));
+            return Err(io::Error::from(io::ErrorKind::StorageFull));
         }
         keep(&self.out, bytes)
     }

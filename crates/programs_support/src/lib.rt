@@ -5,4 +5,4 @@ mod capture;
 mod telling;
 
 pub use capture::Capture;
-pub use telling::{Told, tell, tell_line, tell_on, words_of};
+pub use telling::{Told, tell, tell_line, tell_on, without_times, words_of};

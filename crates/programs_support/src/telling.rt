@@ -23,6 +23,20 @@ impl Told {
     }
 }
 
+/// The lines of a log without their times: without each first word that ends in `Z`. What isn't text is nothing.
+pub fn without_times(alloc: Global, log: &[u8]) -> Result<String, AllocError> {
+    let mut lines = String::new(alloc);
+    for line in str::from_utf8(log).unwrap_or("").lines() {
+        let rest = match line.split_once(' ') {
+            Some((first, rest)) if first.ends_with('Z') => rest,
+            _ => line,
+        };
+        lines.push_str(rest)?;
+        lines.push_str("\n")?;
+    }
+    Ok(lines)
+}
+
 /// The command's own name, and these words.
 fn line_of<S: AsStr>(alloc: Global, words: &[S]) -> Result<Vec<String>, AllocError> {
     let mut line = Vec::new(alloc);

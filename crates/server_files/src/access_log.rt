@@ -1,9 +1,12 @@
 //! The log of a server, on standard error.
+use crate::clock::seconds;
 use crate::error::ServeFilesError;
 use crate::lines::AnswerLine;
+use crate::times::LogTime;
 use server_sockets::{AnswerLog, LoggedAnswer};
 use std::fmt::Display;
 use std::io;
+use std::rt::Clock;
 
 /// The log of a server, on standard error. It has a line for each answer, and for each file that isn't published. A line that can't
 /// be written is lost, and the next one is tried.
@@ -14,16 +17,19 @@ pub struct AccessLog<'r, R> {
     pub is_kept: bool,
 }
 
+impl<R: Eprint + Clock> AccessLog<'_, R> {
+    /// Prints the time and `entry` as a line on standard error, where a log is kept.
+    pub fn print<D: Display + Drop>(&self, entry: D) {
+        if self.is_kept {
+            let now = LogTime(seconds(self.rt));
+            let _ = eprintln!(self.rt; "{now} cogserve: {entry}");
+        }
+    }
+}
+
 impl<R: Eprint> AccessLog<'_, R> {
     ghost use Rattle.std.specs.Prelude.{◌≡◌, IfErr, IsOk, IsTrue, false, Err};
     ghost use Rattle.server_files.specs.declared.error.ServeFilesError.TheVariants.{CantWrite};
-
-    /// Prints `entry` as a line on standard error, where a log is kept.
-    pub fn print<D: Display + Drop>(&self, entry: D) {
-        if self.is_kept {
-            let _ = eprintln!(self.rt; "cogserve: {entry}");
-        }
-    }
 
     /// Fails with `CantWrite` where standard output didn't take a line; `line` is the outcome of writing it. Where a log is kept, the line
     /// is lost instead.
@@ -39,7 +45,7 @@ impl<R: Eprint> AccessLog<'_, R> {
     }
 }
 
-impl<R: Eprint> AnswerLog for AccessLog<'_, R> {
+impl<R: Eprint + Clock> AnswerLog for AccessLog<'_, R> {
     fn is_on(&self) -> bool {
         self.is_kept
     }

@@ -8,6 +8,7 @@ mod error;
 mod lines;
 mod publishing;
 mod rounds;
+mod times;
 
 pub use access_log::AccessLog;
 pub use error::{NotPublished, ServeFilesError};

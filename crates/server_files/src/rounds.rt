@@ -36,7 +36,7 @@ pub fn listen<R>(
     place: &str,
 ) -> Result<TcpListener, ServeFilesError<'static>>
 where
-    R: Print + Eprint + Net<Listener = TcpListener, Stream = TcpStream>,
+    R: Clock + Print + Eprint + Net<Listener = TcpListener, Stream = TcpStream>,
 {
     let listener = match bind(log.rt, place) {
         Ok(listener) => listener,

@@ -3,6 +3,7 @@ use cog_server::PublishError;
 use programs::Exit;
 use programs_support::{Capture, tell};
 use scripts::ScriptError;
+use std::io;
 use std::process::Abort;
 use std::test::Fail;
 use tiff_dir::FileFault;
@@ -71,6 +72,16 @@ fn tells_a_fault_by_its_program_and_words(rt: HostRuntime) -> Result<(), Fail> {
             "{program}: {words}"
         );
     }
+    Ok(())
+}
+
+#[test]
+fn tells_nothing_where_nobody_reads(rt: HostRuntime) -> Result<(), Fail> {
+    let capture = Capture::new(&rt);
+    let fault = Exit::from(io::Error::from(io::ErrorKind::BrokenPipe));
+    assert_eq!(rt; fault.tell(&capture, "cogtools"), 1);
+    let (out, err) = capture.into_texts();
+    assert!(rt; out.is_empty() && err.is_empty());
     Ok(())
 }
 

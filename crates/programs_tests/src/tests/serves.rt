@@ -1,5 +1,7 @@
 //! `cogserve`: the lines of its faults, and the lines of what was published before. No listener can have its address.
 use super::{Want, expect_told};
+use assertion_support::expect_eq;
+use programs_support::{tell, without_times};
 use std::alloc::{AllocError, Global};
 use std::convert::AsStr;
 use std::fs::OpenFile;
@@ -76,21 +78,33 @@ where
 }
 
 /// An option that may be left out, and the word of it that is no number of its range.
-const OF_CHOICES: [(&str, &str, &str); 6] = [
+const OF_CHOICES: [(&str, &str, &str); 10] = [
     ("--at-once", "0", "cogserve: not a number: 0\n"),
     ("--at-once", "10001", "cogserve: not a number: 10001\n"),
     ("--at-once", "all", "cogserve: not a number: all\n"),
     ("--patience", "0", "cogserve: not a number: 0\n"),
     ("--patience", "3601", "cogserve: not a number: 3601\n"),
     ("--patience", "", "cogserve: not a number: \n"),
+    ("--verify", "0", "cogserve: not a number: 0\n"),
+    ("--verify", "86401", "cogserve: not a number: 86401\n"),
+    ("--allow-origin", "", "cogserve: not an origin: \n"),
+    (
+        "--allow-origin",
+        "http://a b",
+        "cogserve: not an origin: http://a b\n",
+    ),
 ];
 
 /// The values beside each limit are numbers: then the next fault is told.
-const WITHIN: [(&str, &str); 4] = [
+const WITHIN: [(&str, &str); 8] = [
     ("--at-once", "1"),
     ("--at-once", "10000"),
     ("--patience", "1"),
     ("--patience", "3600"),
+    ("--verify", "1"),
+    ("--verify", "86400"),
+    ("--allow-origin", "*"),
+    ("--allow-origin", "http://127.0.0.1:8000"),
 ];
 
 #[test]
@@ -219,7 +233,11 @@ const LOGGED: [(&str, &str, &str); 4] = [
 fn tells_with_a_log_why_it_ends(rt: HostRuntime) -> Result<(), Fail> {
     fs::write(&rt, "programs_tests_logged", "some bytes")?;
     for (file, out, err) in LOGGED {
-        expect_words(&rt, ("1", "1", &[file, "--log"]), (out, err, 1))?;
+        let words = words_of(rt.alloc(), "1", "1", &[file, "--log"])?;
+        let told = tell(&rt, &words)?;
+        assert_eq!(rt; without_times(rt.alloc(), &told.err)?.as_str(), err);
+        assert_eq!(rt; told.out.as_slice(), out.as_bytes());
+        expect_eq!(rt; told.status, 1);
     }
     fs::remove_file(&rt, "programs_tests_logged")?;
     Ok(())

@@ -3,7 +3,7 @@ use super::lines::{connect, limits};
 use cog_server::{Additions, Server, Service};
 use disk_files::Watched;
 use fixtures_support::f1;
-use programs_support::Capture;
+use programs_support::{Capture, without_times};
 use server_files::{AccessLog, ServeFilesError, listen, publish_all, serve_connections};
 use server_sockets::Serving;
 use std::fs;
@@ -35,7 +35,7 @@ where
         return Err(Fail::new("a fault"));
     }
     let (_, err) = capture.into_texts();
-    Ok(String::from_str(rt.alloc(), str::from_utf8(&err).unwrap_or("?"))?)
+    Ok(without_times(rt.alloc(), &err)?)
 }
 
 /// Four messages on one connection; the last is no request, and ends it.
@@ -84,8 +84,8 @@ fn tells_the_whole_of_a_request_that_comes_in_pieces(rt: HostRuntime) -> Result<
     serving.wait(1)?;
     serving.turns(&Service::plain(&server), 1, &mut log);
     assert_eq!(rt;
-        str::from_utf8(&capture.into_texts().1),
-        Ok("cogserve: connection 1: GET /a bytes=1-4: 206, 4 bytes\n")
+        without_times(rt.alloc(), &capture.into_texts().1)?.as_str(),
+        "cogserve: connection 1: GET /a bytes=1-4: 206, 4 bytes\n"
     );
     Ok(())
 }
@@ -125,7 +125,7 @@ fn tells_the_port_that_the_system_gave(rt: HostRuntime) -> Result<(), Fail> {
     let want = format!(in rt.alloc(); "cogserve: listening at {}\n", listener.local_addr()?)?;
     let (out, err) = capture.into_texts();
     assert_eq!(rt; out.as_slice(), b"listening 127.0.0.1:0\n".as_slice());
-    assert_eq!(rt; err.as_slice(), want.as_bytes());
+    assert_eq!(rt; without_times(rt.alloc(), &err)?.as_str(), want.as_str());
     Ok(())
 }
 

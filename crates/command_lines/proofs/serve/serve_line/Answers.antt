@@ -1,4 +1,4 @@
-use Rattle.std.proofs.Common.{◌≡◌, ◌∙◌, ap, codes, ℕ, List, Some, map, subst, sym}
+use Rattle.std.proofs.Common.{◌≡◌, ◌∙◌, true, ap, codes, ℕ, List, Some, map, subst, sym}
 use Rattle.std.specs.Borrow.{Bor}
 use Rattle.clap.specs.Words.{App, HasKind, fault_of, found_of, is_simple, is_simple_and_free, matches_of, raw_values, rows_of, takes}
 use Rattle.clap.proofs.CallerLemmas.{some_of_text}
@@ -23,7 +23,7 @@ unwrap-connections-requires g c =
 
 pub unwrap-requires : goal.unwrap-requires
 unwrap-requires g c =
-    let there = files_there c.in_ok-command.command c.in_ok-matches.matches c.in_ok-command.ensures c.in_ok-matches.ensures.parsed in
+    let there = files_there true c.in_ok-command.command c.in_ok-matches.matches c.in_ok-command.ensures c.in_ok-matches.ensures.parsed in
     some_of_text _ c.get_strs.result _ c.get_strs.ensures (some_mapped raw_values _ there)
 
 pub returns-in_err-matches-clause-err : goal.returns-in_err-matches-clause-err
@@ -40,7 +40,7 @@ returns-clause-ok g c =
     let found = found_of c.in_ok-matches.matches in
     let matches = matches_of serve_app texts in
     let rows : rows_of found ≡ matches =
-    (c.in_ok-matches.ensures.matches (ap is_simple is ∙ simple)).0 ∙ ap (λ (a : App). matches_of a texts) is in
+    (c.in_ok-matches.ensures.matches (ap is_simple is ∙ simple true)).0 ∙ ap (λ (a : App). matches_of a texts) is in
     let last = flag_text found matches (codes "announce-last") rows in
     let text = flag_text found matches (codes "log") rows in
     record {
@@ -71,10 +71,10 @@ returns-in_err-matches-clause-kinds g c =
     let texts : List (List ℕ) = map g.S.AsStr.text c.args.words.now in
     let is = c.in_ok-command.ensures in
     refused_as c.from_residual-in_err-matches.result c.in_err-matches.field-0.0 _ c.from_residual-in_err-matches.ensures.1
-    (subst (λ (a : App). HasKind (fault_of a texts) c.in_err-matches.field-0.0) is (c.in_err-matches.ensures.kinds (ap is_simple_and_free is ∙ serve_free)))
+    (subst (λ (a : App). HasKind (fault_of a texts) c.in_err-matches.field-0.0) is (c.in_err-matches.ensures.kinds (ap is_simple_and_free is ∙ serve_free true)))
 
 pub returns-clause-kinds : goal.returns-clause-kinds
 returns-clause-kinds g c =
     let texts : List (List ℕ) = map g.S.AsStr.text c.args.words.now in
     let is = c.in_ok-command.ensures in
-    ap (λ (a : App). fault_of a texts) (sym is) ∙ c.in_ok-matches.ensures.kinds (ap is_simple_and_free is ∙ serve_free)
+    ap (λ (a : App). fault_of a texts) (sym is) ∙ c.in_ok-matches.ensures.kinds (ap is_simple_and_free is ∙ serve_free true)

@@ -114,7 +114,8 @@ fn reads_the_options_of_cogread_anywhere(rt: HostRuntime) -> Result<(), Fail> {
 }
 
 /// The options of `cogserve` that add to answers, and the line that has them.
-const ADDED: &str = "cogserve --allow-origin * --listen h:1 --epoch 1 --announce-last --connections 2 a=p --verify=60";
+const ADDED: &str =
+    "cogserve --allow-origin * --listen h:1 --epoch 1 --announce-last --connections 2 a=p --verify=60";
 
 #[test]
 fn reads_what_cogserve_adds(rt: HostRuntime) -> Result<(), Fail> {

@@ -1,0 +1,54 @@
+-- How the words of `cogread` name a file.
+use Rattle.std.specs.Prelude.{◌≡◌, ◌&&◌, ◌||◌, ◌+◌, ◌++◌, ℕ, eqb, nat_lt, if◌then◌else◌, true, false, not, Bool, List, [], ◌∷◌, Option, None, Some, codes, length, slice_get, slice_index_or}
+use Rattle.std.specs.List.{starts_with}
+use Rattle.std.specs.Str.{bytes_eq}
+use Rattle.command_lines.specs.FileUrl.{IsUrl}
+use Rattle.command_lines.specs.QuickLine.{has_option}
+use Rattle.command_lines.specs.declared.file_words.Expected.{Expected}
+use Rattle.command_lines.specs.declared.file_words.Expected.TheVariants.{Any, Value, Place}
+use Rattle.command_lines.specs.declared.file_words.FileWord.{FileWord}
+use Rattle.command_lines.specs.declared.file_words.FileWord.TheVariants.{ServerAndName, Alone, Single}
+
+-- an option whose value is the next word
+abbrev pub is_spaced_option : List ℕ → Bool
+is_spaced_option word = bytes_eq word (codes "--requests") || (bytes_eq word (codes "--blocks") || (bytes_eq word (codes "--ahead")
+    || (bytes_eq word (codes "--output") || (bytes_eq word (codes "--level") || bytes_eq word (codes "--columns")))))
+
+-- the word stands for itself: it begins with no `-`, or is one
+abbrev pub is_place : Expected → List ℕ → Bool
+is_place Any word = not (starts_with eqb word (codes "-")) || bytes_eq word (codes "-")
+is_place Value word = false
+is_place Place word = true
+
+-- what is expected after it
+abbrev pub expected_after : Expected → List ℕ → Expected
+expected_after Any word = if bytes_eq word (codes "--") then Place else if is_spaced_option word then Value else Any
+expected_after Value word = Any
+expected_after Place word = Place
+
+-- the indices of the words that stand for themselves, of which the first has the index k
+abbrev pub places : Expected → (k : ℕ) → List (List ℕ) → List ℕ
+places expected k [] = []
+places expected k (word ∷ words) = (if is_place expected word then k ∷ [] else []) ++ places (expected_after expected word) (k + 1) words
+
+abbrev pub is_command : List ℕ → Bool
+is_command word = bytes_eq word (codes "window") || (bytes_eq word (codes "info") || bytes_eq word (codes "describe"))
+
+-- how many words stand for themselves in a whole line of this command
+abbrev pub words_needed : (command : List ℕ) (whole : Bool) → ℕ
+words_needed command whole = if bytes_eq command (codes "window") && not whole then 8 else 4
+
+-- the word behind the program's own name
+abbrev pub command_of : List (List ℕ) → List ℕ
+command_of words = slice_index_or words 1 []
+
+-- the index of the word that stands where the server does, in a line of a command in which words are missing
+abbrev pub single_word : List (List ℕ) → Option ℕ
+single_word words = if is_command (command_of words) && nat_lt (length (places Any 0 words)) (words_needed (command_of words) (has_option (codes "--whole") words))
+    then slice_get (places Any 0 words) 2 else None
+
+-- Only a URL may be the first word. Otherwise a word may stand for a server and a name where the words of the command don't suffice.
+abbrev pub IsFileWord : List (List ℕ) → FileWord → Type 0
+IsFileWord words (Alone k) = (k ≡ 1) × IsUrl (command_of words)
+IsFileWord words (Single k) = ¬ IsUrl (command_of words) × (single_word words ≡ Some k)
+IsFileWord words ServerAndName = ¬ IsUrl (command_of words) × (single_word words ≡ None)

@@ -1,0 +1,170 @@
+//! How the words of `cogread` name a file: by a server and a name, or by one word in their place.
+ghost use Rattle.std.specs.Prelude.{◌≡◌, ◌+◌, ◌++◌, ◌∷◌, ◌<◌, [], if◌then◌else◌, IfOk, OnOk, codes, drop, eqb, length, map, take};
+ghost use Rattle.std.specs.List.{starts_with};
+ghost use Rattle.command_lines.specs.FileWord.{IsFileWord, expected_after, is_command, is_place, is_spaced_option, places, single_word, words_needed};
+ghost use Rattle.command_lines.specs.declared.file_words.Expected.TheVariants.{Any};
+
+use crate::quick::has_option;
+use crate::urls::is_url;
+use std::alloc::{AllocError, Global};
+use std::convert::AsStr;
+
+/// What the next word of a line is expected to be.
+#[derive(Clone, Copy)]
+enum Expected {
+    /// An option, or a word that stands for itself.
+    Any,
+    /// The value of the option before it.
+    Value,
+    /// A word that stands for itself, since `--` stood before it.
+    Place,
+}
+
+/// How a line of `cogread` names its file. Words are told by their index in the line.
+#[derive(Clone, Copy, Debug, PartialEq, Eq)]
+pub enum FileWord {
+    /// By a server and a name, as the command has them; or the line has too few words, and none that may stand for both.
+    ServerAndName,
+    /// A URL is the first word behind the program's own name, in the place of `describe SERVER NAME`.
+    Alone(usize),
+    /// Words are missing, and this one stands where the server does: it may stand for a server and a name.
+    Single(usize),
+}
+
+/// Returns whether a word is an option whose value is the next word.
+fn is_spaced_option(word: &str) -> bool
+    ensures { result ≡ is_spaced_option word.now }
+{
+    word == "--requests"
+        || word == "--blocks"
+        || word == "--ahead"
+        || word == "--output"
+        || word == "--level"
+        || word == "--columns"
+}
+
+/// Returns whether a word begins with `-`.
+fn begins_with_dash(word: &str) -> bool
+    ensures { result ≡ starts_with eqb word.now (codes "-") }
+{
+    word.starts_with("-")
+}
+
+/// Returns whether a word stands for itself, where this is expected: it is no option, and no value of one.
+fn is_place(expected: Expected, word: &str) -> bool
+    ensures { result ≡ is_place expected word.now }
+{
+    match expected {
+        Expected::Any => !begins_with_dash(word) || word == "-",
+        Expected::Value => false,
+        Expected::Place => true,
+    }
+}
+
+/// Returns what is expected after a word where this was expected.
+fn expected_after(expected: Expected, word: &str) -> Expected
+    ensures { result ≡ expected_after expected word.now }
+{
+    match expected {
+        Expected::Any if word == "--" => Expected::Place,
+        Expected::Any if is_spaced_option(word) => Expected::Value,
+        Expected::Value => Expected::Any,
+        other => other,
+    }
+}
+
+/// Adds an index where it is that of a word which stands for itself.
+fn add_place(
+    found: &mut Vec<usize>,
+    index: usize,
+    expected: Expected,
+    word: &str,
+) -> Result<(), AllocError>
+    ensures { OnOk result (found.new.items ≡ found.old.items ++ (if is_place expected word.now then index ∷ [] else [])) }
+{
+    if is_place(expected, word) {
+        found.push(index)?;
+    }
+    Ok(())
+}
+
+/// Returns the indices of the words that stand for themselves.
+fn places<S: AsStr>(alloc: Global, words: &[S]) -> Result<Vec<usize>, AllocError>
+    ensures { IfOk result (λ found. found.items ≡ places Any 0 (map S.text words.now)) }
+{
+    let mut found = Vec::new(alloc);
+    let mut expected = Expected::Any;
+    for k in 0..words.len() {
+        let word = words[k].as_str();
+        add_place(&mut found, k, expected, word)?;
+        expected = expected_after(expected, word);
+    }
+    Ok(found)
+}
+
+/// Returns whether a word is one of the commands.
+fn is_command(word: &str) -> bool
+    ensures { result ≡ is_command word.now }
+{
+    word == "window" || word == "info" || word == "describe"
+}
+
+/// Returns how many words stand for themselves in a whole line of a command: the program's own name, the command, SERVER and NAME, and
+/// the sides of a window.
+fn words_needed(command: &str, is_whole: bool) -> usize
+    ensures { result ≡ words_needed command.now is_whole }
+{
+    if command == "window" && !is_whole {
+        8
+    } else {
+        4
+    }
+}
+
+/// Returns the index of the word that stands where the server does, in a line of a command in which words are missing.
+fn single_word<S: AsStr>(alloc: Global, words: &[S]) -> Result<Option<usize>, AllocError>
+    ensures { IfOk result (λ index. index ≡ single_word (map S.text words.now)) }
+{
+    let Some(command) = words.get(1) else {
+        return Ok(None);
+    };
+    let command = command.as_str();
+    let found = places(alloc, words)?;
+    if is_command(command) && found.len() < words_needed(command, has_option(words, "--whole")) {
+        Ok(found.get(2).copied())
+    } else {
+        Ok(None)
+    }
+}
+
+/// Returns how the words of `cogread` name a file; the first of them is its own name.
+pub fn file_word<S: AsStr>(alloc: Global, words: &[S]) -> Result<FileWord, AllocError>
+    ensures { IfOk result (IsFileWord (map S.text words.now)) }
+{
+    if let Some(first) = words.get(1)
+        && is_url(first.as_str())
+    {
+        return Ok(FileWord::Alone(1));
+    }
+    match single_word(alloc, words)? {
+        Some(index) => Ok(FileWord::Single(index)),
+        None => Ok(FileWord::ServerAndName),
+    }
+}
+
+/// Returns words with others in the place of the one at an index.
+pub fn words_instead<'a>(
+    alloc: Global,
+    words: &[&'a str],
+    index: usize,
+    instead: &[&'a str],
+) -> Result<Vec<&'a str>, AllocError>
+    requires { index < length words.now }
+    ensures { IfOk result (λ line. line.items ≡ take index words.now ++ (instead.now ++ drop (index + 1) words.now)) }
+{
+    let mut line = Vec::new(alloc);
+    line.extend_from_slice(&words[..index])?;
+    line.extend_from_slice(instead)?;
+    line.extend_from_slice(&words[index + 1..])?;
+    Ok(line)
+}

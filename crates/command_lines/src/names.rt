@@ -1,0 +1,31 @@
+//! The names under which files are published that are given without one.
+ghost use Rattle.std.specs.Prelude.{◌≡◌, ◌<◌, IfOk, string_bytes};
+ghost use Rattle.command_lines.specs.FileName.{name_byte, name_of_path};
+
+use std::alloc::{AllocError, Global};
+use std::path::Path;
+
+/// Returns a byte of a name, which is `_` in the place of a byte that no name has.
+fn name_byte(byte: u8) -> u8
+    ensures value { result ≡ name_byte byte }
+    ensures ascii { result < 128 }
+{
+    if byte.is_ascii_alphanumeric() || byte == b'.' || byte == b'-' || byte == b'/' {
+        byte
+    } else {
+        b'_'
+    }
+}
+
+/// Makes the name of a file from its path: the last part, in which bytes that no name has become `_`. A path without one, as `..`, has
+/// the empty name, which no file has.
+pub fn name_of_path(alloc: Global, path: &str) -> Result<String, AllocError>
+    ensures { IfOk result (λ name. string_bytes name ≡ name_of_path path.now) }
+{
+    let last = Path::new(path).file_name().unwrap_or("");
+    let mut name = String::new(alloc);
+    for byte in last.as_bytes() {
+        name.push(char::from(name_byte(*byte)))?;
+    }
+    Ok(name)
+}

@@ -1,0 +1,26 @@
+-- Files with their own names, as they are watched, and the fault of two that have one.
+use Rattle.std.specs.Prelude.{◌≡◌, ◌⊎◌, ℕ, List, string_bytes, ⊤}
+use Rattle.std.specs.List.{AllZip}
+use Rattle.disk_files.specs.declared.watched.Watched.{Watched}
+use Rattle.command_lines.specs.NamedFiles.{AreOfOneName}
+use Rattle.command_lines.specs.declared.given_files.NamedFile.{NamedFile}
+use Rattle.programs.specs.declared.exit.Exit.{Exit}
+use Rattle.programs.specs.declared.exit.Exit.TheVariants.{Memory, OneName}
+
+-- the file under the same name and path
+abbrev pub IsWatched : NamedFile → Watched → Type 0
+IsWatched file watched = (watched.name.now ≡ string_bytes file.name) × (watched.path.now ≡ file.path.now)
+
+abbrev pub AreWatched : List NamedFile → List Watched → Type 0
+AreWatched files watched = AllZip IsWatched files watched
+
+-- the fault names these two files, by the name of the second, or memory is wanting
+abbrev pub NamesBoth : (first second : NamedFile) → Exit → Type 0
+NamesBoth first second (OneName name one other) = (string_bytes name ≡ string_bytes second.name) × (string_bytes one ≡ first.path.now)
+    × (string_bytes other ≡ second.path.now)
+NamesBoth first second Memory = ⊤
+NamesBoth first second fault = ⊥
+
+-- the fault names two of the files that have one name, or memory is wanting
+abbrev pub NamesTwo : List NamedFile → Exit → Type 0
+NamesTwo files fault = (fault ≡ Memory) ⊎ ((first second : NamedFile) × AreOfOneName files first second × NamesBoth first second fault)

@@ -1,0 +1,178 @@
+//! `cogserve` with files alone: what its words leave out has a default, and a file has its own name.
+ghost use Rattle.std.specs.Prelude.{◌≡◌, ◌++◌, ◌∷◌, [], IfErr, IfOk, IfSome, Ok, OnOk};
+ghost use Rattle.std.specs.Option.{option_copied};
+ghost use Rattle.command_lines.specs.NamedFiles.{HaveOwnNames};
+ghost use Rattle.programs.specs.NamedFiles.{AreWatched, IsWatched, NamesBoth, NamesTwo};
+ghost use Rattle.programs.specs.Number.{IsOfNumber};
+ghost use Rattle.programs.specs.Words.{IsGiven};
+
+use crate::cogserve::{ended, limits_of, millis_of, verify_of};
+use crate::exit::Exit;
+use crate::number::number;
+use crate::origin::additions_of;
+use cog_server::{Additions, Server};
+use command_lines::{NamedFile, QuickLine, named_files, two_of_one_name};
+use disk_files::Watched;
+use server_files::{AccessLog, ServeFilesError, listen, publish_all, serve_connections};
+use server_sockets::Limits;
+use std::alloc::{AllocError, Global};
+use std::net::{Net, TcpListener, TcpStream};
+use std::rt::{Clock, Files};
+
+/// Where the server listens without a word.
+const PLACE: &str = "127.0.0.1:8080";
+
+/// How many connections it serves without a word.
+const CONNECTIONS: &str = "4294967295";
+
+/// Runs the program on a line. It listens first, so that the epoch isn't less than that of a server which had the port before.
+pub fn run<R>(rt: &R, line: &QuickLine<'_>) -> Result<(), Exit>
+where
+    R: Files
+        + Clock
+        + Print
+        + Eprint
+        + AllocGlobal
+        + Net<Listener = TcpListener, Stream = TcpStream>,
+{
+    let given = given_epoch(rt, line.epoch)?;
+    let connections = line.connections.unwrap_or(CONNECTIONS);
+    let limits = limits_of(rt, connections, line.at_once, line.patience)?;
+    let verify = millis_of(verify_of(rt, line.verify)?);
+    let additions = additions_of(rt, line.allow_origin, true)?;
+    let named = named_files(rt.alloc(), &line.files)?;
+    check_names(rt.alloc(), &named)?;
+    let mut files = watched_files(rt.alloc(), &named, verify)?;
+    let mut log = AccessLog {
+        rt,
+        is_kept: line.log,
+    };
+    let listening = listen(&log, line.listen.unwrap_or(PLACE));
+    let listener = ended(&log, listening)?;
+    let mut server = Server::new(rt.alloc(), epoch_of(rt, given)?);
+    let served = serve(
+        &mut log,
+        &mut server,
+        &mut files,
+        listener,
+        limits,
+        additions,
+    );
+    ended(&log, served)
+}
+
+/// Publishes the files, prints their URLs, and serves them.
+fn serve<'a, R>(
+    log: &mut AccessLog<'_, R>,
+    server: &mut Server,
+    files: &mut [Watched<'a>],
+    listener: TcpListener,
+    limits: Limits,
+    additions: Additions<'_>,
+) -> Result<(), ServeFilesError<'a>>
+where
+    R: Files
+        + Clock
+        + Print
+        + Eprint
+        + AllocGlobal
+        + Net<Listener = TcpListener, Stream = TcpStream>,
+{
+    publish_all(log, server, files)?;
+    print_urls(log, &listener, files)?;
+    serve_connections(log, server, files, listener, limits, additions)
+}
+
+/// Prints the URL of each file, in a line of its own, where the system says at which address the server listens.
+fn print_urls<R: Print + Eprint>(
+    log: &AccessLog<'_, R>,
+    listener: &TcpListener,
+    files: &[Watched<'_>],
+) -> Result<(), ServeFilesError<'static>> {
+    let Ok(address) = listener.local_addr() else {
+        return Ok(());
+    };
+    for file in files {
+        log.written(println!(log.rt; "http://{address}/{}", file.name))?;
+    }
+    Ok(())
+}
+
+/// Returns the epoch that a word gives, if one stands.
+fn given_epoch<R: AllocGlobal>(rt: &R, word: Option<&str>) -> Result<Option<u32>, Exit>
+    ensures ok { IfOk result (IsGiven (option_copied word.entry)) }
+    ensures kinds { IfErr result IsOfNumber }
+{
+    match word {
+        Some(word) => Ok(Some(number(rt, word, 0, u32::MAX)?)),
+        None => Ok(None),
+    }
+}
+
+/// Returns the epoch that is given, or without one the seconds since 1970.
+fn epoch_of<R: Clock>(rt: &R, given: Option<u32>) -> Result<u32, Exit>
+    ensures { IfSome given (λ epoch. result ≡ Ok epoch) }
+{
+    match given {
+        Some(epoch) => Ok(epoch),
+        None => match rt.since_1970() {
+            Ok(since) => Ok(u32::try_from(since.as_secs()).unwrap_or(u32::MAX)),
+            Err(_) => Err(Exit::NoClock),
+        },
+    }
+}
+
+/// Fails with `OneName` where two files have one name.
+fn check_names(alloc: Global, files: &[NamedFile<'_>]) -> Result<(), Exit>
+    ensures ok { OnOk result (HaveOwnNames files.now) }
+    ensures told { IfErr result (NamesTwo files.now) }
+{
+    match two_of_one_name(files) {
+        Some((first, second)) => Err(one_name(alloc, first, second)?),
+        None => Ok(()),
+    }
+}
+
+/// Makes the fault of two files that have one name.
+fn one_name(
+    alloc: Global,
+    first: &NamedFile<'_>,
+    second: &NamedFile<'_>,
+) -> Result<Exit, AllocError>
+    ensures { IfOk result (NamesBoth first.now second.now) }
+{
+    Ok(Exit::OneName(
+        String::from_str(alloc, second.name.as_str())?,
+        String::from_str(alloc, first.path)?,
+        String::from_str(alloc, second.path)?,
+    ))
+}
+
+/// Makes a file as it is watched.
+fn watched_of<'a>(file: &'a NamedFile<'a>, verify: Option<u64>) -> Watched<'a>
+    ensures { IsWatched file.entry.now result }
+{
+    Watched::verified(file.name.as_str(), file.path, verify)
+}
+
+/// Makes the files as they are watched.
+fn watched_files<'a>(
+    alloc: Global,
+    files: &'a [NamedFile<'a>],
+    verify: Option<u64>,
+) -> Result<Vec<Watched<'a>>, AllocError>
+    ensures { IfOk result (λ watched. AreWatched files.entry.now watched.items) }
+{
+    let mut watched = Vec::new(alloc);
+    for file in files {
+        add_watched(&mut watched, watched_of(file, verify))?;
+    }
+    Ok(watched)
+}
+
+/// Adds a file that is watched behind the others.
+fn add_watched<'a>(watched: &mut Vec<Watched<'a>>, file: Watched<'a>) -> Result<(), AllocError>
+    ensures { OnOk result (watched.new.items ≡ watched.old.items ++ file.entry ∷ []) }
+{
+    Ok(watched.push(file)?)
+}
