@@ -78,7 +78,8 @@ impl<P> Noted<P> {
     pub(crate) fn status(&self) -> Option<&str>
         ensures { IfSome result (λ text. AllPass is_ascii_digit text.now) }
     {
-        let line = self.front.strip_prefix(b"HTTP/1.1 ".as_slice())?;
+        let line = self.front.strip_prefix(b"HTTP/1.1 ".as_slice());
+        let line = line.or(self.front.strip_prefix(b"HTTP/1.0 ".as_slice()))?;
         let digits = line.get(..3)?;
         if !digits.iter().all(|byte| byte.is_ascii_digit()) {
             return None;
