@@ -22,6 +22,10 @@ use Rattle.text_description.specs.declared.facts.RasterType.TheVariants.{Area, P
 abbrev pub type_name : ℕ → List ℕ
 type_name bits = if bits == 8 then codes "Byte" else codes "UInt16"
 
+-- The standard's name of 262: a level has one sample to a pixel where it is 1, and three where it is 2 (TIFF 6.0, section 8).
+abbrev pub photometric_name : ℕ → List ℕ
+photometric_name samples = if samples == 1 then codes "BlackIsZero" else codes "RGB"
+
 abbrev pub compression_name : Compression → List ℕ
 compression_name Plain = codes "none"
 compression_name (Packed PackBits) = codes "PackBits"
@@ -36,6 +40,7 @@ pub record IsFactsOf (level : Level) (facts : LevelFacts) : Type 0 where
   pub samples : facts.samples ≡ level.samples
   pub bits : facts.bits ≡ level.bits
   pub kind : facts.kind.now ≡ type_name level.bits
+  pub photometric : facts.photometric.now ≡ photometric_name level.samples
   pub compression : facts.compression.now ≡ compression_name level.compression
 
 -- the facts are the levels', one for each, in their order

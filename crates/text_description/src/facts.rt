@@ -3,7 +3,7 @@ ghost use Rattle.std.specs.Prelude.{◌≡◌, ◌≤◌, ◌==◌, IfOk, IsTrue
 ghost use Rattle.std.specs.List.{before_first, position};
 ghost use Rattle.std.specs.Cow.{cow_str_bytes};
 ghost use Rattle.std.specs.Str.Lossy.{utf8_lossy};
-ghost use Rattle.text_description.specs.Facts.{citation, compression_name, geodetic_citation, has_label, is_end, named_in, number_of, numbered, raster_type_by, raster_type_of, system_number, text_of, type_name, value_of, IsFactsOf, IsSystemBy};
+ghost use Rattle.text_description.specs.Facts.{citation, compression_name, geodetic_citation, has_label, is_end, named_in, number_of, numbered, photometric_name, raster_type_by, raster_type_of, system_number, text_of, type_name, value_of, IsFactsOf, IsSystemBy};
 
 use cog_client::Info;
 use geokeys::{Key, KeyValue};
@@ -28,6 +28,8 @@ pub struct LevelFacts {
     /// GDAL's name of a sample's type.
     #[serde(rename = "type")]
     pub kind: &'static str,
+    /// The standard's name of PhotometricInterpretation.
+    pub photometric: &'static str,
     pub compression: &'static str,
 }
 
@@ -91,6 +93,7 @@ impl LevelFacts {
             samples: level.samples,
             bits: level.bits,
             kind: type_name(level.bits),
+            photometric: photometric_name(level.samples),
             compression: compression_name(level.compression),
         }
     }
@@ -101,6 +104,13 @@ fn type_name(bits: u16) -> &'static str
     ensures { result.now ≡ type_name bits }
 {
     if bits == 8 { "Byte" } else { "UInt16" }
+}
+
+/// Returns the name (TIFF 6.0, section 8) of what the samples of a pixel are: one that is grey, or red, green and blue.
+fn photometric_name(samples: u16) -> &'static str
+    ensures { result.now ≡ photometric_name samples }
+{
+    if samples == 1 { "BlackIsZero" } else { "RGB" }
 }
 
 fn compression_name(compression: Compression) -> &'static str
