@@ -10,4 +10,4 @@ mod sentences;
 pub use escaped_text::EscapedText;
 pub use info::info_text;
 pub use netpbm::{picture_head, window_picture};
-pub use sentences::FaultSentence;
+pub use sentences::{ExplainedFault, FaultSentence, WayOut};
