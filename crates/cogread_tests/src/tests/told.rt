@@ -54,6 +54,7 @@ fn ask_and_tell<R: Print + Eprint + AllocGlobal + Clock, P: Pieces + Drop>(
         net: &net,
         requests: 3,
         verbosity,
+        is_url: false,
     };
     if let Err(error) = exchanges.text(&mut client, &mut noted, Asked::Query(query)) {
         Exit::from(error).tell(rt, "cogread");
