@@ -131,6 +131,7 @@ fn text_of_line<'c, R>(
     line: &ReadLine<'_>,
     numbers: Numbers,
     client: &'c mut Client,
+    is_url: bool,
 ) -> Result<Text<'c>, ReadError>
 where
     R: Clock + Eprint + AllocGlobal + Net<Stream = TcpStream>,
@@ -148,6 +149,7 @@ where
         net: &net,
         requests: numbers.requests,
         verbosity: telling_of(line),
+        is_url,
     };
     exchanges.text(client, &mut noted, numbers.asked)
 }
@@ -172,14 +174,14 @@ where
     }
 }
 
-/// Reads what a line asks for, and writes it.
-fn run_read<R>(rt: &R, line: &ReadLine<'_>) -> Result<(), Exit>
+/// Reads what a line asks for, and writes it. A URL may name the file.
+fn run_read<R>(rt: &R, line: &ReadLine<'_>, is_url: bool) -> Result<(), Exit>
 where
     R: Files + Clock + Print + Eprint + AllocGlobal + Net<Stream = TcpStream>,
 {
     let numbers = numbers_of(rt, line)?;
     let mut client = client_of(rt, line, numbers.blocks)?;
-    read_with(rt, line, numbers, &mut client)
+    read_with(rt, line, numbers, &mut client, is_url)
 }
 
 /// Reads with a client what a line asks for, and writes it.
@@ -188,11 +190,12 @@ fn read_with<R>(
     line: &ReadLine<'_>,
     numbers: Numbers,
     client: &mut Client,
+    is_url: bool,
 ) -> Result<(), Exit>
 where
     R: Files + Clock + Print + Eprint + AllocGlobal + Net<Stream = TcpStream>,
 {
-    let text = text_of_line(rt, line, numbers, client)?;
+    let text = text_of_line(rt, line, numbers, client, is_url)?;
     write_text(rt, line, &text)
 }
 
@@ -254,7 +257,10 @@ where
     let mut line = read_line(rt.alloc(), &named)?;
     line.keep = !line.close;
     line.ahead = line.ahead.or(Some(AHEAD_OF_A_URL));
-    run_read(rt, &line)
+    match run_read(rt, &line, true) {
+        Err(Exit::OfFile(fault)) => Err(Exit::Explained(fault)),
+        ended => ended,
+    }
 }
 
 /// Runs the program on its words, of which the first is its own name.
@@ -263,7 +269,7 @@ where
     R: Files + Clock + Print + Eprint + AllocGlobal + Net<Stream = TcpStream>,
 {
     match read_line(rt.alloc(), words) {
-        Ok(line) => run_read(rt, &line),
+        Ok(line) => run_read(rt, &line, false),
         Err(refusal) => match url_for_missing(&refusal, words) {
             Some(url) => run_url(rt, words, url),
             None => Err(Exit::from(refusal)),
