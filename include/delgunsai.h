@@ -163,11 +163,33 @@ struct cog_report {
     uint32_t height;
     uint32_t samples;
     uint32_t bits;
-    uint32_t fault;   /* of a fault: its number, docs/PROFILE.md, 1 to 18, and the field it is about, or 0 */
+    uint32_t fault;   /* of a fault: its number, 1 to 18 (COG_FAULT_HEADER ..), and the field it is about, or 0 */
     uint32_t field;
 };
 
 enum { COG_WINDOW = 1, COG_INFO = 2, COG_FAULT = 3 };
+
+/* `fault` of a report: what is wrong with the file, or with what is asked of it. docs/PROFILE.md has the rules. */
+enum {
+    COG_FAULT_HEADER = 1,        /* no classic TIFF: the byte order or the number 42 is wrong */
+    COG_FAULT_PAST_END = 2,      /* bytes that are needed end after the file */
+    COG_FAULT_DIR_PLACE = 3,     /* a directory's offset is odd or below 8 */
+    COG_FAULT_DIR_COUNT = 4,     /* a directory has no entries, or more than 256 */
+    COG_FAULT_TAG_ORDER = 5,     /* the tags of a directory don't ascend */
+    COG_FAULT_TOO_MANY_DIRS = 6, /* more than 16 directories */
+    COG_FAULT_MISSING = 7,       /* a level lacks this field */
+    COG_FAULT_FIELD_TYPE = 8,    /* this field has another type or count */
+    COG_FAULT_UNSUPPORTED = 9,   /* a value of this field isn't read */
+    COG_FAULT_LEVEL_SHAPE = 10,  /* a side is 0, the first image is a reduced one, or a level isn't smaller than the one before */
+    COG_FAULT_TILE_ARRAY = 11,   /* the array of tiles has not as many values as there are tiles, or more than 65536 */
+    COG_FAULT_TILE_SIZE = 12,    /* a tile's side, plain size or byte count is wrong */
+    COG_FAULT_PACKET = 13,       /* the packed bytes of a tile are no packets that fill it exactly, row by row */
+    COG_FAULT_OUTSIDE = 14,      /* the window is empty or passes its level, there is no such level, or 0 columns are asked for */
+    COG_FAULT_TOO_LARGE = 15,    /* more than 4194304 samples, or a geo field of more than 65536 bytes */
+    COG_FAULT_KEY_HEAD = 16,     /* the geo keys' version, revision or length is wrong */
+    COG_FAULT_KEY_ORDER = 17,    /* the geo keys don't ascend */
+    COG_FAULT_KEY_PLACE = 18,    /* a geo key's values aren't where it says */
+};
 
 /* cog_client_report: what the report tells that stands, and the file's tag, a strong validator with its quotes, into the room. The report
  * stands until the next query or cog_client_forget. Gives the tag's length; 0, where no report stands, and then nothing is written;

@@ -82,12 +82,12 @@ class FileFault(Error):
 
 
 class Header(FileFault):
-    """The byte order marks or the number 42 are wrong."""
+    """No classic TIFF: the byte order or the number 42 is wrong."""
     number = 1
 
 
 class PastEnd(FileFault):
-    """A range that the query needs ends after the file."""
+    """Bytes that are needed end after the file."""
     number = 2
 
 
@@ -102,37 +102,37 @@ class DirCount(FileFault):
 
 
 class TagOrder(FileFault):
-    """A tag is not greater than the one before."""
+    """The tags of a directory don't ascend."""
     number = 5
 
 
 class TooManyDirs(FileFault):
-    """A next offset other than 0 stands after 16 directories."""
+    """More than 16 directories."""
     number = 6
 
 
 class Missing(FileFault):
-    """A level lacks this tag."""
+    """A level lacks this field."""
     number = 7
 
 
 class FieldType(FileFault):
-    """This tag has another type or count."""
+    """This field has another type or count."""
     number = 8
 
 
 class Unsupported(FileFault):
-    """A value of this tag is outside the profile."""
+    """A value of this field isn't read."""
     number = 9
 
 
 class LevelShape(FileFault):
-    """A side is 0, the first directory is a reduced-resolution image, or a level is not smaller than the one before."""
+    """A side is 0, the first image is a reduced one, or a level isn't smaller than the one before."""
     number = 10
 
 
 class TileArray(FileFault):
-    """An array of tiles has another count than there are tiles, or there are more than 65,536 tiles."""
+    """The array of tiles has not as many values as there are tiles, or more than 65536."""
     number = 11
 
 
@@ -147,27 +147,27 @@ class Packet(FileFault):
 
 
 class Outside(FileFault):
-    """The window is empty, by 0 columns, in no level, or passes a side of the level that its numbers are given in."""
+    """The window is empty or passes its level, there is no such level, or 0 columns are asked for."""
     number = 14
 
 
 class TooLarge(FileFault):
-    """The window has more than 4,194,304 samples, or a field that georeferences the image more than 65,536 bytes."""
+    """More than 4194304 samples, or a geo field of more than 65536 bytes."""
     number = 15
 
 
 class KeyHead(FileFault):
-    """The key directory's version, revision or length is wrong."""
+    """The geo keys' version, revision or length is wrong."""
     number = 16
 
 
 class KeyOrder(FileFault):
-    """A key is not greater than the one before."""
+    """The geo keys don't ascend."""
     number = 17
 
 
 class KeyPlace(FileFault):
-    """A key's values are in no field, or past its end, or the key is its value and has another Count than 1."""
+    """A geo key's values aren't where it says."""
     number = 18
 
 

@@ -191,4 +191,4 @@ class Refused(unittest.TestCase):
         with delgunsai.open_file(place) as file, self.assertRaises(delgunsai.Unsupported) as seen:
             file.read(x=0, y=0, width=1, height=1)
         self.assertEqual(seen.exception.tag, 259)
-        self.assertTrue(str(seen.exception).endswith('outside the profile: Compression (259)'))
+        self.assertTrue(str(seen.exception).endswith("isn't read: Compression (259)"))

@@ -221,7 +221,7 @@ class Changes(unittest.TestCase):
         with Made(lambda *_: head(b'404 Not Found', b'Content-Length: 0')) as server, Views(path, broken, server.url()) as views:
             self.assertEqual(views.told('/info/later.tif.json'), (502, {'error': f'{path}: No such file or directory'}))
             self.assertEqual(views.told('/info/broken.tif.json'),
-                             (502, {'error': f'{broken}: The byte order marks or the number 42 are wrong.'}))
+                             (502, {'error': f'{broken}: No classic TIFF: the byte order or the number 42 is wrong.'}))
             self.assertEqual(views.told('/info/a.json'), (502, {'error': f'{server.url()}: its status is 404'}))
             self.assertEqual(views.told('/tiles/later.tif/0/0/0.png')[0], 502)
             shutil.copy(EXAMPLE, path)

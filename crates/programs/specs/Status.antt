@@ -8,7 +8,7 @@ use Rattle.read_command.specs.declared.error.ReadError.{ReadError}
 use Rattle.read_command.specs.declared.error.ReadError.TheVariants as reading
 use Rattle.programs.specs.declared.exit.Exit.{Exit}
 use Rattle.programs.specs.declared.exit.Exit.TheVariants.{NotText, NotAProgram, CommandLine, NotANumber, NotAFile, NotAnOrigin, OneName, NoClock, Script}
-use Rattle.programs.specs.declared.exit.Exit.TheVariants.{RefusedClient, NotAFileUrl, OfFile, NoReport, CantRead, Refused, CantListen, CantAccept, CantWait, CantWrite, CantWriteFile, Memory, ReaderGone}
+use Rattle.programs.specs.declared.exit.Exit.TheVariants.{RefusedClient, NotAFileUrl, OfFile, Explained, NoReport, NotUsed, CantRead, Refused, CantListen, CantAccept, CantWait, CantWrite, CantWriteFile, Memory, ReaderGone}
 
 -- 0 where help or the version is asked for, and 2 where the words aren't the program's
 abbrev pub line_status : ErrorKind → ℕ
@@ -29,7 +29,9 @@ HasStatus (OneName name first second) n = n ≡ 2
 HasStatus (RefusedClient refusal) n = n ≡ 2
 HasStatus (NotAFileUrl word error) n = n ≡ 2
 HasStatus (OfFile fault) n = n ≡ 3
+HasStatus (Explained fault) n = n ≡ 3
 HasStatus NoReport n = n ≡ 4
+HasStatus (NotUsed why) n = n ≡ 4
 HasStatus (Script (script.NotAnEvent line)) n = n ≡ 2
 HasStatus (Script (script.CantRead line)) n = n ≡ 1
 HasStatus (Script script.Memory) n = n ≡ 1
@@ -57,4 +59,5 @@ EndsBy false fault n = (HasStatus fault n × (n ≢ 0)) ⊎ (HasStatus fault 0 �
 abbrev pub exit_of_reading : ReadError → Exit
 exit_of_reading (reading.OfFile fault) = OfFile fault
 exit_of_reading reading.NoReport = NoReport
+exit_of_reading (reading.NotUsed why) = NotUsed why
 exit_of_reading reading.Memory = Memory

@@ -135,6 +135,7 @@ fn text_of_line<'c, R>(
     line: &ReadLine<'_>,
     numbers: Numbers,
     client: &'c mut Client,
+    is_url: bool,
 ) -> Result<Text<'c>, ReadError>
 where
     R: Clock + Eprint + AllocGlobal + Net<Stream = TcpStream>,
@@ -146,10 +147,10 @@ where
         client.keep_open();
         socket.keep_open();
     }
-    text_of_source(rt, &net, line, numbers, client, socket)
+    text_of_source(rt, &net, line, numbers, client, socket, is_url)
 }
 
-/// What a line asks for, over a source of answers.
+/// What a line asks for, over a source of answers. A URL may name the file, or it may be one of the disk.
 fn text_of_source<'c, R, P: Pieces + Drop>(
     rt: &R,
     net: &NotedNet<'_, R>,
@@ -157,6 +158,7 @@ fn text_of_source<'c, R, P: Pieces + Drop>(
     numbers: Numbers,
     client: &'c mut Client,
     source: P,
+    is_url: bool,
 ) -> Result<Text<'c>, ReadError>
 where
     R: Clock + Eprint + AllocGlobal,
@@ -167,6 +169,7 @@ where
         net,
         requests: numbers.requests,
         verbosity: telling_of(line),
+        is_url,
     };
     exchanges.text(client, &mut noted, numbers.asked)
 }
@@ -191,14 +194,14 @@ where
     }
 }
 
-/// Reads what a line asks for over sockets, and writes it.
-fn run_read<R>(rt: &R, line: &ReadLine<'_>) -> Result<(), Exit>
+/// Reads what a line asks for over sockets, and writes it. A URL may name the file.
+fn run_read<R>(rt: &R, line: &ReadLine<'_>, is_url: bool) -> Result<(), Exit>
 where
     R: Files + Clock + Print + Eprint + AllocGlobal + Net<Stream = TcpStream>,
 {
     let numbers = numbers_of(rt, line)?;
     let mut client = client_of(rt, line, numbers.blocks)?;
-    let text = text_of_line(rt, line, numbers, &mut client)?;
+    let text = text_of_line(rt, line, numbers, &mut client, is_url)?;
     write_text(rt, line, &text)
 }
 
@@ -213,7 +216,7 @@ where
     let server = server_of_file(rt, path)?;
     let source = source_of(rt.alloc(), &server);
     let net = NotedNet::new(rt);
-    let text = text_of_source(rt, &net, line, numbers, &mut client, source)?;
+    let text = text_of_source(rt, &net, line, numbers, &mut client, source, true)?;
     write_text(rt, line, &text)
 }
 
@@ -240,7 +243,15 @@ where
     let mut line = read_line(rt.alloc(), &named)?;
     line.keep = !line.close;
     line.ahead = line.ahead.or(Some(AHEAD_OF_A_URL));
-    run_read(rt, &line)
+    explained(run_read(rt, &line, true))
+}
+
+/// Has the fault of a file explained, as the forms do that name a URL or a file of the disk.
+fn explained(ended: Result<(), Exit>) -> Result<(), Exit> {
+    match ended {
+        Err(Exit::OfFile(fault)) => Err(Exit::Explained(fault)),
+        ended => ended,
+    }
 }
 
 /// Runs the program on words of which one stands for a server and a name: a URL, or the path of a file of the disk. A word that is
@@ -259,7 +270,7 @@ where
         let mut line = read_line(rt.alloc(), &named)?;
         line.ahead = line.ahead.or(Some(AHEAD_OF_A_URL));
         line.requests = line.requests.or(Some(REQUESTS_OF_A_FILE));
-        return run_local(rt, &line, words[index]);
+        return explained(run_local(rt, &line, words[index]));
     }
     run_named(rt, words)
 }
@@ -270,7 +281,7 @@ where
     R: Files + Clock + Print + Eprint + AllocGlobal + Net<Stream = TcpStream>,
 {
     let line = read_line(rt.alloc(), words)?;
-    run_read(rt, &line)
+    run_read(rt, &line, false)
 }
 
 /// Runs the program on its words, of which the first is its own name.

@@ -1,13 +1,15 @@
 //! Why a program ends early.
 use clap::error::ErrorKind;
-use cog_client::ClientError;
+use cog_client::{ClientError, Why};
 use cog_server::PublishError;
 use command_lines::FileUrlError;
 use http_range::Memory;
 use read_command::ReadError;
+use read_progress::WhySentence;
 use scripts::ScriptError;
 use std::alloc::AllocError;
 use std::{fmt, io};
+use text_report::ExplainedFault;
 use tiff_dir::FileFault;
 
 /// Why a program ends early.
@@ -40,8 +42,12 @@ pub enum Exit {
     NotAFileUrl(String, FileUrlError),
     /// The report is this fault of the file.
     OfFile(FileFault),
+    /// The report is this fault of the file that a URL names: its line explains it.
+    Explained(FileFault),
     /// No report stands after all requests.
     NoReport,
+    /// The first answer to a URL isn't used for this reason, nor will a later one be.
+    NotUsed(Why),
     /// The address can't be bound.
     CantListen,
     /// No connection can be accepted any more.
@@ -79,7 +85,8 @@ impl Exit {
             | Exit::NotAFileUrl(_, _)
             | Exit::Script(ScriptError::NotAnEvent(_)) => 2,
             Exit::OfFile(_) => 3,
-            Exit::NoReport => 4,
+            Exit::Explained(_) => 3,
+            Exit::NoReport | Exit::NotUsed(_) => 4,
             Exit::Script(_)
             | Exit::CantRead(_)
             | Exit::Refused(_, _)
@@ -162,7 +169,9 @@ impl fmt::Display for ExitLine<'_> {
                 Some(tag) => write!(f, "{program}: fault {} {tag}", fault.number()),
                 None => write!(f, "{program}: fault {}", fault.number()),
             },
+            Exit::Explained(fault) => write!(f, "{program}: {}", ExplainedFault(*fault)),
             Exit::NoReport => write!(f, "{program}: no report"),
+            Exit::NotUsed(why) => write!(f, "{program}: no report: {}", WhySentence(*why)),
             Exit::CantListen => write!(f, "{program}: can't listen"),
             Exit::CantAccept => write!(f, "{program}: can't accept"),
             Exit::CantWait => write!(f, "{program}: can't wait"),
@@ -207,6 +216,7 @@ impl From<ReadError> for Exit {
         match error {
             ReadError::OfFile(fault) => Exit::OfFile(fault),
             ReadError::NoReport => Exit::NoReport,
+            ReadError::NotUsed(why) => Exit::NotUsed(why),
             ReadError::Memory => Exit::Memory,
         }
     }

@@ -1,15 +1,20 @@
 -- What exchanges for what is asked keep and do, and when they end.
-use Rattle.std.specs.Prelude.{◌≡◌, ◌≢◌, ◌≤◌, ◌⊎◌, ℕ, zero, suc, Some, IfSome, IsSome, IsSomeAnd}
+use Rattle.std.specs.Prelude.{◌≡◌, ◌≢◌, ◌≤◌, ◌⊎◌, ℕ, zero, suc, Bool, true, Some, IfSome, IsSome, IsSomeAnd, ⊤}
 use Rattle.tiff_dir.specs.declared.query.Query.{Query}
 use Rattle.tiff_dir.specs.declared.query.Query.TheVariants.{Window, Info}
 use Rattle.tiff_dir.specs.declared.query.Pick.TheVariants.{Level}
 use Rattle.http_range.specs.Book.{Publication, Book, In}
+use Rattle.http_range.specs.declared.reading.Why.{Why}
 use Rattle.cog_client.specs.Client.{ClientState, query_of, report_of}
 use Rattle.cog_client.specs.Keeps.{OpensKeeping}
 use Rattle.cog_client.specs.Transport.{Anything, FetchesSome, ReadsBook, StopsFetching}
+use Rattle.read_progress.specs.declared.noted.Noted.{Noted}
+use Rattle.read_progress.specs.Noted.{IsRefused}
+use Rattle.read_command.specs.declared.error.ReadError.{ReadError}
+use Rattle.read_command.specs.declared.error.ReadError.TheVariants.{Memory, NotUsed}
 use Rattle.read_command.specs.declared.reading.Asked.{Asked}
 use Rattle.read_command.specs.declared.reading.Asked.TheVariants as asked
-use Rattle.read_command.specs.Text.{IsFor, TellsSides}
+use Rattle.read_command.specs.Text.{IsFor, StaysWithin, TellsSides}
 
 -- the client still reads each book that it read and that the source spoke for
 abbrev pub StillReads : (Book → Type 0) → (Book → Type 0) → ClientState → ClientState → Type 0
@@ -39,6 +44,20 @@ ReadsSome a old new = (n : ℕ) × ReadsQueries a n old new
 abbrev pub StopsReading : Asked → ClientState → ClientState → Type 0
 StopsReading a old new = (mid opened : ClientState) × (query : Query) × IsAskedFor a query
     × ReadsSome a old mid × OpensKeeping query mid opened × StopsFetching Anything opened new
+
+-- ---- answers that aren't used
+
+-- A URL names the file, and at most one exchange was begun, whose answer isn't used for this reason, nor will a later one be.
+pub record IsUnused {P : Type 0} (is_url : Bool) (before after : ℕ) (noted : Noted P) (why : Why) : Type 0 where
+  pub asked : is_url ≡ true
+  pub few : StaysWithin 1 before after
+  pub refused : IsRefused why noted
+
+-- so it is where this error tells of such an answer; else memory is wanting
+abbrev pub EndsUnused : {P : Type 0} → (is_url : Bool) → (before after : ℕ) → Noted P → ReadError → Type 0
+EndsUnused is_url before after noted (NotUsed why) = IsUnused is_url before after noted why
+EndsUnused is_url before after noted Memory = ⊤
+EndsUnused is_url before after noted error = ⊥
 
 -- ---- when they end
 

@@ -14,7 +14,7 @@ use Rattle.cog_client.specs.Report.{IsTrueReport}
 use Rattle.text_report.specs.InfoText.{IsOfTag}
 use Rattle.text_report.specs.Netpbm.{netpbm}
 use Rattle.read_command.specs.declared.error.ReadError.{ReadError}
-use Rattle.read_command.specs.declared.error.ReadError.TheVariants.{NoReport, OfFile, Memory}
+use Rattle.read_command.specs.declared.error.ReadError.TheVariants.{NoReport, NotUsed, OfFile, Memory}
 use Rattle.read_command.specs.declared.reading.Asked.{Asked}
 use Rattle.read_command.specs.declared.reading.Asked.TheVariants as asked
 use Rattle.read_command.specs.declared.text.Text.{Text}
@@ -52,6 +52,7 @@ IsWritten (asked.Description form) tag (outcome.Info i) (Ok text) = text.samples
 IsWritten a tag (outcome.Fault fault) written = written ≡ Err (OfFile fault)
 IsWritten a tag o (Err NoReport) = TellsSides a o
 IsWritten a tag o (Err (OfFile fault)) = o ≡ outcome.Fault fault
+IsWritten a tag o (Err (NotUsed why)) = ⊥
 IsWritten a tag o (Err Memory) = ⊤
 
 -- the query is for the whole of the level, in each file of the book that has this tag

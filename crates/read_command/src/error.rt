@@ -1,5 +1,5 @@
 //! Why there is no text of a file.
-use cog_client::FetchError;
+use cog_client::{FetchError, Why};
 use extents::Memory;
 use tiff_dir::FileFault;
 
@@ -10,6 +10,8 @@ pub enum ReadError {
     OfFile(FileFault),
     /// No report stands that has what is asked.
     NoReport,
+    /// The first answer isn't used for this reason, nor will a later one be.
+    NotUsed(Why),
     Memory,
 }
 

@@ -1,22 +1,23 @@
 //! How `cogread` reads: its exchanges, which are told with `--verbose` and drawn with `--progress`, and what is asked of the file.
-ghost use Rattle.std.specs.Prelude.{◌≡◌, ◌≢◌, ℕ, ◌+◌, ◌<◌, ◌≤◌, ◌^◌, ◌⊎◌, false, true, Err, IfSome, IsSomeAnd, List, None, OnErr, OnOk, Option, Some, slice_get};
+ghost use Rattle.std.specs.Prelude.{◌≡◌, ◌≢◌, ℕ, ◌+◌, ◌<◌, ◌≤◌, ◌^◌, ◌⊎◌, false, true, Err, IfErr, IfOk, IfSome, IsSome, IsSomeAnd, List, None, OnErr, OnOk, Option, Some, min, slice_get};
 ghost use Rattle.tiff_dir.specs.declared.query.Query.TheVariants.{Info as AnInfo};
 ghost use Rattle.http_range.specs.Book.{Book, HasDistinctTags};
+ghost use Rattle.http_range.specs.declared.reading.Why.{Why};
 ghost use Rattle.cog_client.specs.Calls.{IsIdle};
 ghost use Rattle.cog_client.specs.declared.report.Report.{Report};
 ghost use Rattle.cog_client.specs.Client.{name_of, report_of, ClientAgrees};
 ghost use Rattle.cog_client.specs.Keeps.{RequestsKeeping, Stands};
 ghost use Rattle.cog_client.specs.Transport.{Anything, FetchesAll, FetchesSome, KeepsReading, ReadsBook, StopsFetching};
 ghost use Rattle.cog_fetch.specs.Takes.{TakenOf};
-ghost use Rattle.read_progress.specs.Noted.{source_of};
-ghost use Rattle.read_command.specs.declared.error.ReadError.TheVariants.{NoReport};
+ghost use Rattle.read_progress.specs.Noted.{IsRefused, source_of};
+ghost use Rattle.read_command.specs.declared.error.ReadError.TheVariants.{NoReport, NotUsed};
 ghost use Rattle.read_command.specs.declared.reading.Asked.TheVariants.{Whole};
-ghost use Rattle.read_command.specs.Exchanges.{AsksOf, Ends, IsAskedFor, ReadsSome, StillReads, StopsReading};
+ghost use Rattle.read_command.specs.Exchanges.{AsksOf, Ends, EndsUnused, IsAskedFor, IsUnused, ReadsSome, StillReads, StopsReading};
 ghost use Rattle.read_command.specs.Text.{HasNothing, IsOfFile, IsOfWholeBy, IsWritten, StaysWithin, TellsSides, WritesTrue};
 
 use crate::error::ReadError;
 use crate::text::Text;
-use cog_client::{Client, FetchError, Info, Outcome, Pieces, Query, Report, Tag};
+use cog_client::{Client, FetchError, Info, Outcome, Pieces, Query, Report, Tag, Why};
 use cog_fetch::fetch_pieces;
 use http_range::law_fronts_are_read;
 use read_progress::{Noted, NotedNet, exchanges_drawn, exchanges_told};
@@ -52,6 +53,9 @@ pub struct Exchanges<'a, 'r, R> {
     pub net: &'a NotedNet<'r, R>,
     pub requests: u32,
     pub verbosity: Verbosity,
+    /// Whether a URL names the file. The first answer ends the exchanges then, if no later one will be used, and the line of a fault
+    /// explains it, so that nothing else does.
+    pub is_url: bool,
 }
 
 /// How many exchanges of so many are left.
@@ -170,6 +174,70 @@ impl<R: Eprint + Clock + AllocGlobal> Exchanges<'_, '_, R> {
         self.fetch(client, noted)
     }
 
+    /// Makes the first exchange, if one is allowed, and returns why its answer isn't used, where no later one will be.
+    fn first_refusal<P: Pieces>(
+        &self,
+        client: &mut Client,
+        noted: &mut Noted<P>,
+        asked: Asked,
+    ) -> Result<Option<Why>, FetchError>
+        ensures reads { StillReads (P.speaks_for (source_of noted.old)) (P.speaks_for (source_of noted.new)) client.old client.new }
+        ensures few { StaysWithin (min self.now.requests 1) (P.count (source_of noted.old)) (P.count (source_of noted.new)) }
+        ensures refused { IfOk result (λ refusal. IfSome refusal (λ why. IsRefused why noted.new)) }
+    {
+        let first = Exchanges {
+            rt: self.rt,
+            net: self.net,
+            requests: self.requests.min(1),
+            verbosity: self.verbosity,
+            is_url: self.is_url,
+        };
+        first.fetch_asked(client, noted, asked)?;
+        Ok(noted.lasting_refusal())
+    }
+
+    /// Makes the first exchange where a URL names the file. Fails with `NotUsed` where neither its answer nor a later one will be used.
+    fn begin<P: Pieces>(
+        &self,
+        client: &mut Client,
+        noted: &mut Noted<P>,
+        asked: Asked,
+    ) -> Result<(), ReadError>
+        ensures reads { StillReads (P.speaks_for (source_of noted.old)) (P.speaks_for (source_of noted.new)) client.old client.new }
+        ensures few { StaysWithin self.now.requests (P.count (source_of noted.old)) (P.count (source_of noted.new)) }
+        ensures refused { IfErr result (EndsUnused self.now.is_url (P.count (source_of noted.old)) (P.count (source_of noted.new))
+            noted.new) }
+    {
+        if !self.is_url {
+            return Ok(());
+        }
+        match self.first_refusal(client, noted, asked)? {
+            Some(why) => Err(ReadError::NotUsed(why)),
+            None => Ok(()),
+        }
+    }
+
+    /// Reads what is asked over a source that is noted. Where a URL names the file, the first answer ends it, if no later one will be used.
+    fn fetch_used<P: Pieces>(
+        &self,
+        client: &mut Client,
+        noted: &mut Noted<P>,
+        asked: Asked,
+    ) -> Result<(), ReadError>
+        ensures reads { StillReads (P.speaks_for (source_of noted.old)) (P.speaks_for (source_of noted.new)) client.old client.new }
+        ensures asks { (book : Book) → ReadsBook (P.speaks_for (source_of noted.old)) client.old book
+            → OnOk result (AsksOf book asked client.new) }
+        ensures few { StaysWithin self.now.requests (P.count (source_of noted.old)) (P.count (source_of noted.new)) }
+        ensures ends { ((level : ℕ) → asked ≢ Whole level) → OnOk result
+            ((self.now.requests ≤ P.count (source_of noted.new)) ⊎ IsSome (report_of client.new)) }
+        ensures refused { IfErr result (EndsUnused self.now.is_url (P.count (source_of noted.old)) (P.count (source_of noted.new))
+            noted.new) }
+    {
+        self.begin(client, noted, asked)?;
+        self.fetch_asked(client, noted, asked)?;
+        Ok(())
+    }
+
     /// Reads what is asked over a source that is noted, and gives its text: a picture, whose samples the client lends, what Info tells,
     /// or a description. What is told of each exchange goes to standard error, and so does why there is no text.
     pub fn text<'c, P: Pieces>(
@@ -186,8 +254,11 @@ impl<R: Eprint + Clock + AllocGlobal> Exchanges<'_, '_, R> {
         ensures few { StaysWithin self.now.requests (P.count (source_of noted.old)) (P.count (source_of noted.new)) }
         ensures none { ((level : ℕ) → asked ≢ Whole level) → result ≡ Err NoReport
             → self.now.requests ≤ P.count (source_of noted.new) }
+        // That an answer isn't used is told only where a URL names the file, after one exchange at most, of the answer that came then.
+        ensures refused { (why : Why) → result ≡ Err (NotUsed why)
+            → IsUnused self.now.is_url (P.count (source_of noted.old)) (P.count (source_of noted.new)) noted.new why }
     {
-        let fetched = self.fetch_asked(client, noted, asked);
+        let fetched = self.fetch_used(client, noted, asked);
         self.end_line();
         fetched?;
         self.text_at(client, asked)
@@ -200,6 +271,7 @@ impl<R: Eprint + Clock + AllocGlobal> Exchanges<'_, '_, R> {
         ensures left { result ≡ Err NoReport → HasNothing asked (report_of client.now) }
         ensures says { IfSome (report_of client.now) (λ r. IsWritten asked r.tag r.outcome result) }
         ensures silent { report_of client.now ≡ None → result ≡ Err NoReport }
+        ensures used { (why : Why) → result ≢ Err (NotUsed why) }
     {
         let Some(report) = client.report() else {
             self.tell_no_report();
@@ -227,6 +299,7 @@ impl<R: Eprint + Clock + AllocGlobal> Exchanges<'_, '_, R> {
     ) -> Result<Text<'c>, ReadError>
         requires { report_of client.now ≡ Some report.now }
         ensures written { IsWritten asked report.now.tag report.now.outcome result }
+        ensures used { (why : Why) → result ≢ Err (NotUsed why) }
     {
         let alloc = self.rt.alloc();
         match &report.outcome {
@@ -245,7 +318,7 @@ impl<R: Eprint + Clock + AllocGlobal> Exchanges<'_, '_, R> {
                 Asked::Whole { .. } => Err(ReadError::NoReport),
             },
             Outcome::Fault(fault) => {
-                if self.verbosity == Verbosity::Each {
+                if self.verbosity == Verbosity::Each && !self.is_url {
                     let _ = eprintln!(self.rt; "cogread: {}", FaultSentence(*fault));
                 }
                 Err(ReadError::OfFile(*fault))

@@ -2,6 +2,8 @@
 use Rattle.std.specs.Prelude.{◌≡◌, ◌⊎◌, ◌-◌, ◌<◌, ◌++◌, ℕ, Bool, true, false, List, Ok, Err, length, min, take}
 use Rattle.http_range.specs.Announced.{announced}
 use Rattle.http_range.specs.Reading.{ReadsHead}
+use Rattle.http_range.specs.declared.reading.Why.{Why}
+use Rattle.read_progress.specs.Lasting.{is_lasting}
 use Rattle.read_progress.specs.declared.noted.Came.{Came}
 use Rattle.read_progress.specs.declared.noted.Came.TheVariants.{Brought, Nothing, NotUsed, Unsent}
 use Rattle.read_progress.specs.declared.noted.Noted.{Noted}
@@ -38,3 +40,7 @@ module _ {P : Type 0} where
   HasCome s (NotUsed why) = Has s × ReadsHead (front_of s) (Err why)
   HasCome s (Brought head count) =
       Has s × ReadsHead (front_of s) (Ok (announced head)) × (count ≡ min (bytes_of s - head.size) head.length)
+
+  -- the last answer isn't used for this reason, nor will the next one be
+  abbrev pub IsRefused : Why → Noted P → Type 0
+  IsRefused why s = HasCome s (NotUsed why) × (is_lasting why ≡ true)

@@ -12,5 +12,5 @@ mod told;
 pub use drawn::exchanges_drawn;
 pub use network::NotedNet;
 pub use noted::{Came, Noted, Progress};
-pub use sentences::{RefusalSentence, WhySentence};
+pub use sentences::{RefusalSentence, WhySentence, is_lasting};
 pub use told::exchanges_told;

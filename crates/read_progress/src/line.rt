@@ -2,9 +2,9 @@
 use crate::noted::Came;
 use crate::sentences::WhySentence;
 use cog_client::Tag;
+use cog_fetch::ANSWER_LIMIT;
 use http_range::Head;
-use std::fmt;
-use std::io::ErrorKind;
+use std::{fmt, io};
 use text_report::EscapedText;
 
 /// An exchange: what was asked, what came, how long it took, and what the client reads then.
@@ -20,7 +20,7 @@ pub(crate) struct ExchangeLine<'c, 'n> {
     pub milliseconds: u64,
     pub came: Came,
     /// Why the last connection wasn't made.
-    pub refusal: Option<ErrorKind>,
+    pub refusal: Option<io::Error>,
     /// The tag that the client read before the exchange, and the one that it reads after it.
     pub before: Option<Tag>,
     pub after: Option<Tag>,
@@ -65,9 +65,18 @@ impl ExchangeLine<'_, '_> {
         }
         write!(f, "{count} bytes of the file, tag {tag}")?;
         if count < head.length {
-            write!(f, "; the connection broke before {}", head.length)?;
+            write!(f, "; {} before {}", self.end_words(), head.length)?;
         }
         Ok(())
+    }
+
+    /// Why an answer ended before its length: the reader takes no more than `ANSWER_LIMIT` bytes of one.
+    fn end_words(&self) -> &'static str {
+        if self.bytes < ANSWER_LIMIT as u64 {
+            "the connection broke"
+        } else {
+            "enough was read"
+        }
     }
 }
 
@@ -82,7 +91,7 @@ impl fmt::Display for ExchangeLine<'_, '_> {
         write!(f, "{bytes} bytes, {milliseconds} ms: ")?;
         match &self.came {
             Came::Unsent => match self.refusal {
-                Some(kind) => write!(f, "no connection: {kind}"),
+                Some(error) => write!(f, "no connection: {error}"),
                 None => write!(f, "no connection: the server isn't HOST:PORT, or it broke"),
             },
             Came::Nothing => write!(f, "no answer came"),

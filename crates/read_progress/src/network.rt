@@ -4,14 +4,13 @@ ghost use Rattle.std.specs.Prelude.{◌≤◌, length, IfOk};
 use std::alloc::Global;
 use std::cell::Cell;
 use std::io;
-use std::io::ErrorKind;
 use std::net::{Net, SocketAddr};
 
 /// A runtime whose network is another one's, and notes why the last connection wasn't made.
 #[derive(Drop)]
 pub struct NotedNet<'r, R> {
     rt: &'r R,
-    refusal: Cell<Option<ErrorKind>>,
+    refusal: Cell<Option<io::Error>>,
 }
 
 impl<'r, R> NotedNet<'r, R> {
@@ -24,7 +23,7 @@ impl<'r, R> NotedNet<'r, R> {
     }
 
     /// Why the last connection wasn't made; none where it was.
-    pub fn refusal(&self) -> Option<ErrorKind> {
+    pub fn refusal(&self) -> Option<io::Error> {
         self.refusal.get()
     }
 }
@@ -37,11 +36,11 @@ impl<R: AllocGlobal> Alloc for NotedNet<'_, R> {
     }
 }
 
-/// The kind of an error, if there is one.
-fn kind_of<T>(made: &io::Result<T>) -> Option<ErrorKind> {
+/// The error, if there is one.
+fn error_of<T>(made: &io::Result<T>) -> Option<io::Error> {
     match made {
         Ok(_) => None,
-        Err(error) => Some(error.kind()),
+        Err(error) => Some(*error),
     }
 }
 
@@ -56,7 +55,7 @@ impl<R: Net> Net for NotedNet<'_, R> {
 
     fn connect(&self, addr: SocketAddr) -> io::Result<R::Stream> {
         let made = self.rt.connect(addr);
-        self.refusal.set(kind_of(&made));
+        self.refusal.set(error_of(&made));
         made
     }
 
@@ -64,7 +63,7 @@ impl<R: Net> Net for NotedNet<'_, R> {
         ensures in_bounds { IfOk result (λ n. n ≤ length found.new) }
     {
         let count = self.rt.lookup_host(host, port, found);
-        self.refusal.set(kind_of(&count));
+        self.refusal.set(error_of(&count));
         count
     }
 }

@@ -2,8 +2,9 @@
 ghost use Rattle.std.specs.Prelude.{◌≡◌, ◌+◌, [], IfSome, false, length, min};
 ghost use Rattle.std.specs.Char.{is_ascii_digit};
 ghost use Rattle.std.specs.List.{AllPass};
-ghost use Rattle.read_progress.specs.Noted.{HasCome, NotesOf, bytes_of, front_of, sent_of, source_of};
+ghost use Rattle.read_progress.specs.Noted.{HasCome, IsRefused, NotesOf, bytes_of, front_of, sent_of, source_of};
 
+use crate::sentences::is_lasting;
 use cog_client::{Lost, Pieces, Why};
 use http_range::{Head, HeadReading, read_head, read_request};
 use std::alloc::Global;
@@ -78,7 +79,8 @@ impl<P> Noted<P> {
     pub(crate) fn status(&self) -> Option<&str>
         ensures { IfSome result (λ text. AllPass is_ascii_digit text.now) }
     {
-        let line = self.front.strip_prefix(b"HTTP/1.1 ".as_slice())?;
+        let line = self.front.strip_prefix(b"HTTP/1.1 ".as_slice());
+        let line = line.or(self.front.strip_prefix(b"HTTP/1.0 ".as_slice()))?;
         let digits = line.get(..3)?;
         if !digits.iter().all(|byte| byte.is_ascii_digit()) {
             return None;
@@ -108,6 +110,16 @@ impl<P> Noted<P> {
                 let brought = body.min(head.length);
                 Came::Brought(head, brought)
             }
+        }
+    }
+
+    /// Why the answer to the last request isn't used, where no later one will be.
+    pub fn lasting_refusal(&self) -> Option<Why>
+        ensures { IfSome result (λ why. IsRefused why self.now) }
+    {
+        match self.came() {
+            Came::NotUsed(why) if is_lasting(why) => Some(why),
+            _ => None,
         }
     }
 

@@ -1,4 +1,7 @@
 //! Sentences for people: why an answer isn't used, and why no client is made of a server and a name.
+ghost use Rattle.std.specs.Prelude.{◌≡◌};
+ghost use Rattle.read_progress.specs.Lasting.{is_lasting, is_lasting_status};
+
 use cog_client::{ClientError, Why};
 use std::fmt;
 
@@ -17,6 +20,27 @@ fn status_words(status: u16) -> &'static str {
         429 | 503 => "the server is busy",
         500..=599 => "the server can't answer",
         _ => "neither the file nor a part of it",
+    }
+}
+
+/// Returns whether a server that gave this status gives it again to the same request: its file is elsewhere, or it doesn't give it.
+fn is_lasting_status(status: u16) -> bool
+    ensures { result ≡ is_lasting_status status }
+{
+    matches!(
+        status,
+        301 | 302 | 303 | 307 | 308 | 400 | 401 | 403 | 404 | 410
+    )
+}
+
+/// Returns whether the next answer isn't used for the same reason: the status stays, or the server gives no tag that is read.
+pub fn is_lasting(why: Why) -> bool
+    ensures { result ≡ is_lasting why }
+{
+    match why {
+        Why::Status(status) => is_lasting_status(status),
+        Why::NoTag | Why::WeakTag | Why::TagTooLong => true,
+        _ => false,
     }
 }
 

@@ -1,5 +1,6 @@
 -- What the levels and the keys of a file say (GeoTIFF 1.1, OGC 19-008, annex A).
-use Rattle.std.specs.Prelude.{◌≡◌, ◌⊎◌, ℕ, ◌-◌, ◌==◌, ◌||◌, Bool, false, if◌then◌else◌, List, [], ◌∷◌, length, take, codes, slice_get, Option, Some, None, find, option_and_then, option_map, IsSome, ⊤}
+use Rattle.std.specs.Prelude.{◌≡◌, ◌⊎◌, ℕ, ◌==◌, ◌||◌, Bool, if◌then◌else◌, List, [], ◌∷◌, drop, codes, nat_eq, Option, Some, None, find, option_and_then, option_map, IsSome, ⊤}
+use Rattle.std.specs.List.{before_first, starts_with}
 use Rattle.std.specs.Option.{option_or}
 use Rattle.std.specs.Cow.{cow_str_bytes}
 use Rattle.std.specs.Str.Lossy.{utf8_lossy}
@@ -21,6 +22,10 @@ use Rattle.text_description.specs.declared.facts.RasterType.TheVariants.{Area, P
 abbrev pub type_name : ℕ → List ℕ
 type_name bits = if bits == 8 then codes "Byte" else codes "UInt16"
 
+-- The standard's name of 262: a level has one sample to a pixel where it is 1, and three where it is 2 (TIFF 6.0, section 8).
+abbrev pub photometric_name : ℕ → List ℕ
+photometric_name samples = if samples == 1 then codes "BlackIsZero" else codes "RGB"
+
 abbrev pub compression_name : Compression → List ℕ
 compression_name Plain = codes "none"
 compression_name (Packed PackBits) = codes "PackBits"
@@ -35,6 +40,7 @@ pub record IsFactsOf (level : Level) (facts : LevelFacts) : Type 0 where
   pub samples : facts.samples ≡ level.samples
   pub bits : facts.bits ≡ level.bits
   pub kind : facts.kind.now ≡ type_name level.bits
+  pub photometric : facts.photometric.now ≡ photometric_name level.samples
   pub compression : facts.compression.now ≡ compression_name level.compression
 
 -- the facts are the levels', one for each, in their order
@@ -66,20 +72,24 @@ abbrev pub raster_type_by : List Key → Option RasterType
 raster_type_by keys = option_and_then raster_type_of (number_of 1025 keys)
 
 -- a bar or a NUL ends a text
-abbrev pub is_end : Option ℕ → Bool
-is_end None = false
-is_end (Some byte) = (byte == 124) || (byte == 0)
+abbrev pub is_end : ℕ → Bool
+is_end byte = (byte == 124) || (byte == 0)
 
--- a text without its end
-abbrev pub without_end : List ℕ → List ℕ
-without_end bytes = if is_end (slice_get bytes (length bytes - 1)) then take (length bytes - 1) bytes else bytes
+-- the text begins with the label of a projected system's name, or of a geodetic one's
+abbrev pub has_label : List ℕ → Bool
+has_label text = starts_with nat_eq text (codes "PCS Name = ") || starts_with nat_eq text (codes "GCS Name = ")
 
+-- the name in a text: what follows its label, if it has one
+abbrev pub named_in : List ℕ → List ℕ
+named_in text = if has_label text then drop 11 text else text
+
+-- the name in the text up to its end
 abbrev pub text_in : KeyValue → Option (List ℕ)
 text_in (Short n) = None
 text_in (Doubles numbers) = None
-text_in (Ascii bytes) = Some (without_end bytes.items)
+text_in (Ascii bytes) = Some (named_in (before_first is_end bytes.items))
 
--- the text of the key, if it has one
+-- the name in the text of the key, if it has one
 abbrev pub text_of : ℕ → List Key → Option (List ℕ)
 text_of id keys = option_and_then text_in (value_of id keys)
 
@@ -91,9 +101,18 @@ numbered n = if (n == 0) || (n == 32767) then None else Some n
 abbrev pub system_number : List Key → Option ℕ
 system_number keys = option_and_then numbered (option_and_then number_in (option_or (value_of 3072 keys) (value_of 2048 keys)))
 
--- ProjectedCitationGeoKey, else GeodeticCitationGeoKey, and else GTCitationGeoKey
+-- beside the value of ProjectedCRSGeoKey a text names the base of the system, and not the system
+abbrev pub unless_projected : Option KeyValue → Option (List ℕ) → Option (List ℕ)
+unless_projected None text = text
+unless_projected (Some projected) text = None
+
+-- GeodeticCitationGeoKey, where it names the system
+abbrev pub geodetic_citation : List Key → Option (List ℕ)
+geodetic_citation keys = unless_projected (value_of 3072 keys) (text_of 2049 keys)
+
+-- ProjectedCitationGeoKey, else GeodeticCitationGeoKey where it names the system, and else GTCitationGeoKey
 abbrev pub citation : List Key → Option (List ℕ)
-citation keys = option_or (text_of 3073 keys) (option_or (text_of 2049 keys) (text_of 1026 keys))
+citation keys = option_or (text_of 3073 keys) (option_or (geodetic_citation keys) (text_of 1026 keys))
 
 -- The number and the text of the coordinate system, of which what isn't UTF-8 is U+FFFD; no system where no key has either.
 abbrev pub IsSystemBy : List Key → Option CoordinateSystem → Type 0

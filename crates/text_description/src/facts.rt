@@ -1,8 +1,9 @@
 //! What the levels and the keys of a file say, by what they mean.
-ghost use Rattle.std.specs.Prelude.{◌≡◌, ◌==◌, IfOk, find, option_copied};
+ghost use Rattle.std.specs.Prelude.{◌≡◌, ◌≤◌, ◌==◌, IfOk, IsTrue, find, length, option_copied};
+ghost use Rattle.std.specs.List.{before_first, position};
 ghost use Rattle.std.specs.Cow.{cow_str_bytes};
 ghost use Rattle.std.specs.Str.Lossy.{utf8_lossy};
-ghost use Rattle.text_description.specs.Facts.{citation, compression_name, number_of, numbered, raster_type_by, raster_type_of, system_number, text_of, type_name, value_of, without_end, IsFactsOf, IsSystemBy};
+ghost use Rattle.text_description.specs.Facts.{citation, compression_name, geodetic_citation, has_label, is_end, named_in, number_of, numbered, photometric_name, raster_type_by, raster_type_of, system_number, text_of, type_name, value_of, IsFactsOf, IsSystemBy};
 
 use cog_client::Info;
 use geokeys::{Key, KeyValue};
@@ -27,6 +28,8 @@ pub struct LevelFacts {
     /// GDAL's name of a sample's type.
     #[serde(rename = "type")]
     pub kind: &'static str,
+    /// The standard's name of PhotometricInterpretation.
+    pub photometric: &'static str,
     pub compression: &'static str,
 }
 
@@ -72,6 +75,12 @@ const GEODETIC_CITATION: u16 = 2049;
 /// GTCitationGeoKey.
 const CITATION: u16 = 1026;
 
+/// What stands before the name of a projected system in a citation with labels, as of ERDAS.
+const PROJECTED_LABEL: &[u8] = b"PCS Name = ";
+
+/// What stands before the name of a geodetic system in one, as GDAL writes it.
+const GEODETIC_LABEL: &[u8] = b"GCS Name = ";
+
 impl LevelFacts {
     /// What a level says: its sides and those of its tiles, how many tiles there are, and its samples.
     pub fn of(level: &Level) -> LevelFacts
@@ -84,6 +93,7 @@ impl LevelFacts {
             samples: level.samples,
             bits: level.bits,
             kind: type_name(level.bits),
+            photometric: photometric_name(level.samples),
             compression: compression_name(level.compression),
         }
     }
@@ -94,6 +104,13 @@ fn type_name(bits: u16) -> &'static str
     ensures { result.now ≡ type_name bits }
 {
     if bits == 8 { "Byte" } else { "UInt16" }
+}
+
+/// Returns the name (TIFF 6.0, section 8) of what the samples of a pixel are: one that is grey, or red, green and blue.
+fn photometric_name(samples: u16) -> &'static str
+    ensures { result.now ≡ photometric_name samples }
+{
+    if samples == 1 { "BlackIsZero" } else { "RGB" }
 }
 
 fn compression_name(compression: Compression) -> &'static str
@@ -132,23 +149,48 @@ fn number_of(keys: &[Key], id: u16) -> Option<u16>
     }
 }
 
-/// A text without the bar or the NUL that ends it.
-fn without_end(bytes: &[u8]) -> &[u8]
-    ensures { result.now ≡ without_end bytes.now }
+/// Returns where the bar or the NUL stands that ends a text.
+fn place_of_end(bytes: &[u8]) -> Option<usize>
+    ensures { result ≡ position is_end bytes.now }
 {
-    let count = bytes.len().saturating_sub(1);
-    match bytes.get(count) {
-        Some(b'|' | 0) => &bytes[..count],
-        _ => bytes,
+    bytes.iter().position(|byte| *byte == b'|' || *byte == 0)
+}
+
+/// Returns a text up to its end. Some writers give a key the texts of others, too, which follow it.
+fn before_end(bytes: &[u8]) -> &[u8]
+    ensures { result.now ≡ before_first is_end bytes.now }
+{
+    match place_of_end(bytes) {
+        Some(count) => &bytes[..count],
+        None => bytes,
     }
 }
 
-/// The bytes of the text of a key that has one, without its end.
+/// Returns whether a text begins with the label of a name.
+fn has_label(text: &[u8]) -> bool
+    ensures label { result ≡ has_label text.now }
+    ensures long { IsTrue result → 11 ≤ length text.now }
+{
+    text.starts_with(PROJECTED_LABEL) || text.starts_with(GEODETIC_LABEL)
+}
+
+/// Returns the name in a text: what follows its label, if it has one.
+fn named_in(text: &[u8]) -> &[u8]
+    ensures { result.now ≡ named_in text.now }
+{
+    if has_label(text) {
+        &text[GEODETIC_LABEL.len()..]
+    } else {
+        text
+    }
+}
+
+/// Returns the name in the text of a key that has one.
 fn text_of(keys: &[Key], id: u16) -> Option<&[u8]>
     ensures { option_copied result ≡ text_of id keys.now }
 {
     match value_of(keys, id) {
-        Some(KeyValue::Ascii(bytes)) => Some(without_end(bytes)),
+        Some(KeyValue::Ascii(bytes)) => Some(named_in(before_end(bytes))),
         _ => None,
     }
 }
@@ -173,12 +215,22 @@ fn system_number(keys: &[Key]) -> Option<u16>
     }
 }
 
-/// The text of the first citation.
+/// Returns the citation of a geodetic system. Beside the key of a projected system there is none, since it names the base of that.
+fn geodetic_citation(keys: &[Key]) -> Option<&[u8]>
+    ensures { option_copied result ≡ geodetic_citation keys.now }
+{
+    match value_of(keys, PROJECTED) {
+        Some(_) => None,
+        None => text_of(keys, GEODETIC_CITATION),
+    }
+}
+
+/// Returns the first citation that names the system, and not its base.
 fn citation(keys: &[Key]) -> Option<&[u8]>
     ensures { option_copied result ≡ citation keys.now }
 {
     let general = text_of(keys, CITATION);
-    text_of(keys, PROJECTED_CITATION).or(text_of(keys, GEODETIC_CITATION).or(general))
+    text_of(keys, PROJECTED_CITATION).or(geodetic_citation(keys).or(general))
 }
 
 impl RasterType {

@@ -34,7 +34,11 @@ impl fmt::Display for LevelFacts {
         let (width, length) = self.size;
         write!(f, "{width} columns, {length} rows, ")?;
         let samples = CountedNoun(u32::from(self.samples), "sample");
-        write!(f, "{samples} of {} bits, ", self.bits)?;
+        write!(
+            f,
+            "{samples} of {} bits, photometric {}, ",
+            self.bits, self.photometric
+        )?;
         let (across, down) = self.block;
         let tiles = CountedNoun(self.tiles, "tile");
         write!(

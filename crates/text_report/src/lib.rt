@@ -1,4 +1,4 @@
-//! Reports as users see them: a window as a picture, Info as lines of text, and faults as sentences. It escapes the control
+//! Outcomes as users see them: a window as a picture, Info as lines of text, and faults as sentences. It escapes the control
 //! characters of texts that others wrote as `\u{..}`.
 #![tactic(auto)]
 
@@ -9,5 +9,5 @@ mod sentences;
 
 pub use escaped_text::EscapedText;
 pub use info::info_text;
-pub use netpbm::{picture, picture_head, window_picture};
-pub use sentences::FaultSentence;
+pub use netpbm::{picture_head, window_picture};
+pub use sentences::{ExplainedFault, FaultSentence, WayOut};

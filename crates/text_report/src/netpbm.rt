@@ -1,9 +1,8 @@
 //! Windows as portable graymaps and pixmaps (Netpbm, the formats P5 and P6).
-ghost use Rattle.std.specs.Prelude.{◌≡◌, ◌++◌, IfOk, IsSome, Some};
-ghost use Rattle.text_report.specs.Netpbm.{netpbm, picture_of};
+ghost use Rattle.std.specs.Prelude.{◌≡◌, ◌++◌, IfOk};
+ghost use Rattle.text_report.specs.Netpbm.{netpbm};
 
-use cog_client::Report;
-use cog_reader::{Outcome, Window};
+use cog_reader::Window;
 use extents::Memory;
 use itoa::Buffer;
 use std::alloc::Global;
@@ -29,25 +28,7 @@ pub fn picture_head(alloc: Global, window: &Window) -> Result<Vec<u8>, Memory>
     Ok(head)
 }
 
-/// Returns the window of a report as P5, or as P6 where a pixel has three samples: a head of text, then the samples. The report is of a
-/// window. Fails where no memory is left.
-///
-/// ```
-/// if let Outcome::Window(_) = &report.outcome {
-///     io::writer(&rt).write_all(&picture(rt.alloc(), report)?)?;
-/// }
-/// ```
-pub fn picture(alloc: Global, report: &Report) -> Result<Vec<u8>, Memory>
-    requires window { IsSome (picture_of report.now.outcome) }
-    ensures picture { IfOk result (λ text. picture_of report.now.outcome ≡ Some text.items) }
-{
-    let Outcome::Window(window) = &report.outcome else {
-        unreachable!()
-    };
-    window_picture(alloc, window)
-}
-
-/// Returns a window as P5, or as P6, as `picture` does. Fails where no memory is left.
+/// Returns a window as P5, or as P6 where a pixel has three samples: a head of text, then the samples. Fails where no memory is left.
 pub fn window_picture(alloc: Global, window: &Window) -> Result<Vec<u8>, Memory>
     ensures { IfOk result (λ text. text.items
         ≡ netpbm window.now.samples window.now.bits window.now.w window.now.h window.now.pixels.items) }

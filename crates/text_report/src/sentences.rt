@@ -82,15 +82,18 @@ impl fmt::Display for FaultSentence {
     }
 }
 
-/// The sentence of a fault that is about no field.
+/// Returns the sentence of a fault, without the name of its field. Help, the profile, the header for C and Python have the same ones.
 fn plain_sentence(fault: FileFault) -> &'static str {
     match fault {
-        FileFault::Header => "the file is no classic TIFF: it begins otherwise, as BigTIFF does",
-        FileFault::PastEnd => "bytes that are needed lie behind the file's end",
+        FileFault::Header => "no classic TIFF: the byte order or the number 42 is wrong",
+        FileFault::PastEnd => "bytes that are needed end after the file",
         FileFault::DirPlace => "a directory's offset is odd or below 8",
         FileFault::DirCount => "a directory has no entries, or more than 256",
         FileFault::TagOrder => "the tags of a directory don't ascend",
-        FileFault::TooManyDirs => "there are more than 16 directories",
+        FileFault::TooManyDirs => "more than 16 directories",
+        FileFault::Missing(_) => "a level lacks this field",
+        FileFault::FieldType(_) => "this field has another type or count",
+        FileFault::Unsupported(_) => "a value of this field isn't read",
         FileFault::LevelShape => {
             "a side is 0, the first image is a reduced one, or a level isn't smaller than the one before"
         }
@@ -104,14 +107,71 @@ fn plain_sentence(fault: FileFault) -> &'static str {
         FileFault::Outside => {
             "the window is empty or passes its level, there is no such level, or 0 columns are asked for"
         }
-        FileFault::TooLarge => {
-            "the window has more than 4194304 samples, or a geo field more than 65536 bytes"
-        }
+        FileFault::TooLarge => "more than 4194304 samples, or a geo field of more than 65536 bytes",
         FileFault::KeyHead => "the geo keys' version, revision or length is wrong",
         FileFault::KeyOrder => "the geo keys don't ascend",
         FileFault::KeyPlace => "a geo key's values aren't where it says",
-        FileFault::Missing(_) | FileFault::FieldType(_) | FileFault::Unsupported(_) => {
-            "a field isn't as it is to be"
+    }
+}
+
+/// What helps against a fault, as a sentence without its end.
+#[derive(Clone, Copy, Debug, PartialEq, Eq)]
+pub struct WayOut(pub FileFault);
+
+/// Returns what helps against a fault where no conversion does.
+fn way_without_conversion(fault: FileFault) -> Option<&'static str> {
+    match fault {
+        FileFault::PastEnd => Some("Copy it anew: it was cut, or isn't written to its end"),
+        FileFault::Outside => Some("Ask inside a level: describe prints the sides of each"),
+        FileFault::TooLarge => Some(
+            "Ask for less: by --columns C, --level N, or in several windows",
+        ),
+        _ => None,
+    }
+}
+
+/// Returns what is added to the conversion by `gdal_translate` that helps against a fault.
+fn options_for(fault: FileFault) -> &'static str {
+    match fault {
+        FileFault::Header => " -co BIGTIFF=NO",
+        FileFault::TileArray => " -co BLOCKXSIZE=512 -co BLOCKYSIZE=512",
+        FileFault::TileSize => " -co BLOCKXSIZE=256 -co BLOCKYSIZE=256",
+        FileFault::Unsupported(tag) => match tag {
+            tags::BITS_PER_SAMPLE => " -co NBITS=8 -ot Byte -scale",
+            tags::PHOTOMETRIC_INTERPRETATION => " -co PHOTOMETRIC=MINISBLACK",
+            tags::SAMPLES_PER_PIXEL => " -b 1",
+            tags::PLANAR_CONFIGURATION => " -co INTERLEAVE=PIXEL",
+            tags::SAMPLE_FORMAT => " -ot UInt16 -scale",
+            _ => "",
+        },
+        _ => "",
+    }
+}
+
+impl fmt::Display for WayOut {
+    fn fmt<W: fmt::Write>(&self, f: &mut fmt::Formatter<W>) -> fmt::Result {
+        if let Some(words) = way_without_conversion(self.0) {
+            return f.write_str(words);
         }
+        let options = options_for(self.0);
+        write!(
+            f,
+            "Convert it: gdal_translate -co TILED=YES -co COMPRESS=PACKBITS{options} in.tif out.tif"
+        )
+    }
+}
+
+/// A fault as the line that explains it: its number, its field if it is about one, its sentence, and the way out.
+#[derive(Clone, Copy, Debug, PartialEq, Eq)]
+pub struct ExplainedFault(pub FileFault);
+
+impl fmt::Display for ExplainedFault {
+    fn fmt<W: fmt::Write>(&self, f: &mut fmt::Formatter<W>) -> fmt::Result {
+        let fault = self.0;
+        write!(f, "fault {}", fault.number())?;
+        if let Some(tag) = fault.tag() {
+            write!(f, " {tag}")?;
+        }
+        write!(f, ": {}. {}", FaultSentence(fault), WayOut(fault))
     }
 }

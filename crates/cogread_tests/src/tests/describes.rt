@@ -53,21 +53,21 @@ fn points(alloc: Global) -> Result<Vec<u8>, AllocError> {
 const WORDS_OF_F1: &str = "\
 tag \"1-1\"
 378 bytes
-level 0: 16 columns, 16 rows, 1 sample of 8 bits, compression none, 1 tile of 16 by 16
+level 0: 16 columns, 16 rows, 1 sample of 8 bits, photometric BlackIsZero, compression none, 1 tile of 16 by 16
 ";
 
 const WORDS_OF_F3: &str = "\
 tag \"1-1\"
 1456 bytes
-level 0: 32 columns, 32 rows, 1 sample of 8 bits, compression none, 4 tiles of 16 by 16
-level 1: 16 columns, 16 rows, 1 sample of 8 bits, compression PackBits, 1 tile of 16 by 16
+level 0: 32 columns, 32 rows, 1 sample of 8 bits, photometric BlackIsZero, compression none, 4 tiles of 16 by 16
+level 1: 16 columns, 16 rows, 1 sample of 8 bits, photometric BlackIsZero, compression PackBits, 1 tile of 16 by 16
 coordinate system (WGS 84)
 ";
 
 const WORDS_OF_POINTS: &str = "\
 tag \"1-1\"
 520 bytes
-level 0: 16 columns, 16 rows, 1 sample of 8 bits, compression none, 1 tile of 16 by 16
+level 0: 16 columns, 16 rows, 1 sample of 8 bits, photometric BlackIsZero, compression none, 1 tile of 16 by 16
 coordinate system 26711
 a pixel is a point: the image begins half a pixel before the first one
 origin 440690.0 3751350.0
@@ -100,6 +100,7 @@ const JSON_OF_POINTS: &str = r#"{
       "samples": 1,
       "bits": 8,
       "type": "Byte",
+      "photometric": "BlackIsZero",
       "compression": "none"
     }
   ],

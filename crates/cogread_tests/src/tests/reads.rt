@@ -38,6 +38,7 @@ fn read<R: AllocGlobal + Clock, P: Pieces + Drop>(
         net: &NotedNet::new(capture),
         requests,
         verbosity: Verbosity::Nothing,
+        is_url: false,
     };
     let text = exchanges.text(&mut client, &mut noted, asked)?;
     Ok(text.write_to(&mut io::writer(capture))?)

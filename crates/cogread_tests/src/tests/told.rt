@@ -54,6 +54,7 @@ fn ask_and_tell<R: Print + Eprint + AllocGlobal + Clock, P: Pieces + Drop>(
         net: &net,
         requests: 3,
         verbosity,
+        is_url: false,
     };
     if let Err(error) = exchanges.text(&mut client, &mut noted, Asked::Query(query)) {
         Exit::from(error).tell(rt, "cogread");
@@ -149,13 +150,17 @@ impl Transport for Says {
 
 /// What a server says, and what is told of each exchange. A status is three digits (RFC 9112, section 4): no other byte is told as one. Of a
 /// tag, control characters aren't told as they came.
-const SAID: [(&[u8], &str); 5] = [
+const SAID: [(&[u8], &str); 6] = [
     (
         b"HTTP/1.1 206 Partial Content\r\nETag: \"\xc2\x9b1\"\r\nContent-Range: bytes 0-2/9\r\nContent-Length: 3\r\n\r\nabc",
         "206, 95 bytes, T ms: 3 bytes of the file, tag \"\\u{9b}1\"\n",
     ),
     (
         b"HTTP/1.1 404 Not Found\r\nContent-Length: 0\r\n\r\n",
+        "404, 45 bytes, T ms: 404: the server has no such file\n",
+    ),
+    (
+        b"HTTP/1.0 404 Not Found\r\nContent-Length: 0\r\n\r\n",
         "404, 45 bytes, T ms: 404: the server has no such file\n",
     ),
     (
@@ -241,7 +246,7 @@ fn draws_how_far_the_exchanges_have_come(rt: HostRuntime) -> Result<(), Fail> {
 const NOWHERE: [(&[&str], &str, u8); 3] = [
     (
         &["cogread", "info", "127.0.0.1:1", "a", "--verbose", "--requests", "1"],
-        "cogread: GET /a bytes=0-65535: 0 bytes, T ms: no connection: connection refused\n\
+        "cogread: GET /a bytes=0-65535: 0 bytes, T ms: no connection: Connection refused (os error 111)\n\
         cogread: no report, and --requests allows no more than 1\n\
         cogread: no report\n",
         4,

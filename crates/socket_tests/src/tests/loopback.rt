@@ -1,6 +1,7 @@
 //! A client and a server over sockets of one process: a request is sent, the connection is served, and the answer received.
 use super::peer::{Peer, arrived, send_text};
 use assertion_support::expect_eq;
+use client_report::picture;
 use client_sockets::Socket;
 use cog_client::{Client, Delivered, Lost, Outcome, Pieces, Query, Report};
 use cog_server::Stream;
@@ -11,7 +12,7 @@ use std::net::{Net, TcpListener, TcpStream};
 use std::process::Abort;
 use std::rt::Runtime;
 use std::test::Fail;
-use text_report::{info_text, picture};
+use text_report::info_text;
 use tiff_dir::Pick;
 
 /// A window of level 0.

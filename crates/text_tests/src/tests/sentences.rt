@@ -2,24 +2,24 @@
 use cog_client::Why;
 use read_progress::WhySentence;
 use std::test::Fail;
-use text_report::FaultSentence;
+use text_report::{ExplainedFault, FaultSentence, WayOut};
 use tiff_dir::FileFault;
 
 /// Faults about no field, and what is told of them.
 #[rattlefmt::skip]
 const FAULTS: [(FileFault, &str); 15] = [
-    (FileFault::Header, "the file is no classic TIFF: it begins otherwise, as BigTIFF does"),
-    (FileFault::PastEnd, "bytes that are needed lie behind the file's end"),
+    (FileFault::Header, "no classic TIFF: the byte order or the number 42 is wrong"),
+    (FileFault::PastEnd, "bytes that are needed end after the file"),
     (FileFault::DirPlace, "a directory's offset is odd or below 8"),
     (FileFault::DirCount, "a directory has no entries, or more than 256"),
     (FileFault::TagOrder, "the tags of a directory don't ascend"),
-    (FileFault::TooManyDirs, "there are more than 16 directories"),
+    (FileFault::TooManyDirs, "more than 16 directories"),
     (FileFault::LevelShape, "a side is 0, the first image is a reduced one, or a level isn't smaller than the one before"),
     (FileFault::TileArray, "the array of tiles has not as many values as there are tiles, or more than 65536"),
     (FileFault::TileSize, "a tile's side, plain size or byte count is wrong"),
     (FileFault::Packet, "the packed bytes of a tile are no packets that fill it exactly, row by row"),
     (FileFault::Outside, "the window is empty or passes its level, there is no such level, or 0 columns are asked for"),
-    (FileFault::TooLarge, "the window has more than 4194304 samples, or a geo field more than 65536 bytes"),
+    (FileFault::TooLarge, "more than 4194304 samples, or a geo field of more than 65536 bytes"),
     (FileFault::KeyHead, "the geo keys' version, revision or length is wrong"),
     (FileFault::KeyOrder, "the geo keys don't ascend"),
     (FileFault::KeyPlace, "a geo key's values aren't where it says"),
@@ -50,6 +50,58 @@ const FIELDS: [(FileFault, &str); 22] = [
     (FileFault::FieldType(34737), "GeoAsciiParams (34737) has another type or count than it is to have"),
     (FileFault::FieldType(700), "the field (700) has another type or count than it is to have"),
     (FileFault::Unsupported(700), "the field (700) has another value: such a value isn't read"),
+];
+
+/// What stands before and after the options of the conversion that helps.
+const CONVERT: &str = "Convert it: gdal_translate -co TILED=YES -co COMPRESS=PACKBITS";
+
+const FILES: &str = " in.tif out.tif";
+
+/// Faults, and the options that the conversion wants then (gdal_translate and the driver GTiff of GDAL).
+#[rattlefmt::skip]
+const OPTIONS: [(FileFault, &str); 20] = [
+    (FileFault::Header, " -co BIGTIFF=NO"),
+    (FileFault::DirPlace, ""),
+    (FileFault::DirCount, ""),
+    (FileFault::TagOrder, ""),
+    (FileFault::TooManyDirs, ""),
+    (FileFault::Missing(322), ""),
+    (FileFault::FieldType(254), ""),
+    (FileFault::Unsupported(258), " -co NBITS=8 -ot Byte -scale"),
+    (FileFault::Unsupported(259), ""),
+    (FileFault::Unsupported(262), " -co PHOTOMETRIC=MINISBLACK"),
+    (FileFault::Unsupported(277), " -b 1"),
+    (FileFault::Unsupported(284), " -co INTERLEAVE=PIXEL"),
+    (FileFault::Unsupported(339), " -ot UInt16 -scale"),
+    (FileFault::LevelShape, ""),
+    (FileFault::TileArray, " -co BLOCKXSIZE=512 -co BLOCKYSIZE=512"),
+    (FileFault::TileSize, " -co BLOCKXSIZE=256 -co BLOCKYSIZE=256"),
+    (FileFault::Packet, ""),
+    (FileFault::KeyHead, ""),
+    (FileFault::KeyOrder, ""),
+    (FileFault::KeyPlace, ""),
+];
+
+/// Faults against which no conversion helps, and what does.
+#[rattlefmt::skip]
+const WAYS: [(FileFault, &str); 3] = [
+    (FileFault::PastEnd, "Copy it anew: it was cut, or isn't written to its end"),
+    (FileFault::Outside, "Ask inside a level: describe prints the sides of each"),
+    (FileFault::TooLarge, "Ask for less: by --columns C, --level N, or in several windows"),
+];
+
+/// Faults, and the line that explains each.
+#[rattlefmt::skip]
+const EXPLAINED: [(FileFault, &str); 2] = [
+    (
+        FileFault::Unsupported(259),
+        "fault 9 259: Compression (259) has another value: only none (1) and PackBits (32773) are read. \
+        Convert it: gdal_translate -co TILED=YES -co COMPRESS=PACKBITS in.tif out.tif",
+    ),
+    (
+        FileFault::PastEnd,
+        "fault 2: bytes that are needed end after the file. Copy it anew: it was cut, or isn't written to its end",
+    ),
 ];
 
 /// Answers that aren't used, and what is told of them.
@@ -84,6 +136,29 @@ fn tells_faults_as_sentences(rt: HostRuntime) -> Result<(), Fail> {
     }
     for (fault, want) in FIELDS {
         let told = format!(in rt.alloc(); "{}", FaultSentence(fault))?;
+        assert_eq!(rt; told.as_str(), want);
+    }
+    Ok(())
+}
+
+#[test]
+fn tells_what_helps(rt: HostRuntime) -> Result<(), Fail> {
+    for (fault, options) in OPTIONS {
+        let told = format!(in rt.alloc(); "{}", WayOut(fault))?;
+        let want = format!(in rt.alloc(); "{CONVERT}{options}{FILES}")?;
+        assert_eq!(rt; told.as_str(), want.as_str());
+    }
+    for (fault, want) in WAYS {
+        let told = format!(in rt.alloc(); "{}", WayOut(fault))?;
+        assert_eq!(rt; told.as_str(), want);
+    }
+    Ok(())
+}
+
+#[test]
+fn explains_faults(rt: HostRuntime) -> Result<(), Fail> {
+    for (fault, want) in EXPLAINED {
+        let told = format!(in rt.alloc(); "{}", ExplainedFault(fault))?;
         assert_eq!(rt; told.as_str(), want);
     }
     Ok(())

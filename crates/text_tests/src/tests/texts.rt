@@ -1,4 +1,5 @@
 //! Windows as P5 and P6, and the text of Info, of the fixtures and of values by hand.
+use client_report::picture;
 use cog_client::{Client, Info, Outcome, Query, Report};
 use cog_fetch::fetch;
 use fixtures_support::{f1, f3, f4, f6, f6m};
@@ -6,7 +7,7 @@ use geokeys::{Geo, Key, KeyValue};
 use http_range::publication_tag;
 use std::alloc::Global;
 use std::test::Fail;
-use text_report::{info_text, picture};
+use text_report::info_text;
 use tiff_dir::Pick;
 use transports::{InMemory, server_of_one};
 

@@ -65,14 +65,23 @@ fn tells_the_number_of_a_system(rt: HostRuntime) -> Result<(), Fail> {
 /// Keys with texts.
 type Texts = &'static [(u16, &'static [u8])];
 
-/// A text ends in a bar or in NUL. One that isn't UTF-8 is told as far as it is.
+/// A text ends at a bar or a NUL, and a label before the name isn't part of it. One that isn't UTF-8 is told as far as it is.
 #[test]
 fn tells_the_text_of_a_system(rt: HostRuntime) -> Result<(), Fail> {
     let alloc = rt.alloc();
-    let rows: [(Texts, &str); 4] = [
+    let rows: [(Texts, &str); 7] = [
         (&[(1026, b"all"), (2049, b"WGS 84|")], "WGS 84"),
         (&[(2049, b"WGS 84|"), (3073, b"UTM 33\0")], "UTM 33"),
-        (&[(1026, b"A|B|")], "A|B"),
+        (&[(1026, b"A|B|")], "A"),
+        (
+            &[(1026, b"PCS Name = My_UTM|GCS Name = G|Datum = D|")],
+            "My_UTM",
+        ),
+        (
+            &[(2049, b"GCS Name = unknown|Datum = unknown||")],
+            "unknown",
+        ),
+        (&[(3073, b"GCS Name")], "GCS Name"),
         (&[(1026, b"W\xffS")], "W\u{fffd}S"),
     ];
     for (keys, want) in rows {
@@ -82,6 +91,47 @@ fn tells_the_text_of_a_system(rt: HostRuntime) -> Result<(), Fail> {
         };
         assert_eq!(rt; system.name.as_deref(), Some(want));
         expect_eq!(rt; system.number, None);
+    }
+    Ok(())
+}
+
+/// Keys of a projected system with texts, and the name that gdalinfo has for them: the geodetic citation names the base of the system.
+#[test]
+fn tells_the_name_of_a_projected_system(rt: HostRuntime) -> Result<(), Fail> {
+    let alloc = rt.alloc();
+    let rows: [(u16, Texts, Option<&str>); 5] = [
+        (
+            32633,
+            &[(1026, b"WGS 84 / UTM zone 33N|"), (2049, b"WGS 84|")],
+            Some("WGS 84 / UTM zone 33N"),
+        ),
+        (
+            32633,
+            &[(1026, b"WGS 84 / UTM zone 33N|WGS 84|")],
+            Some("WGS 84 / UTM zone 33N"),
+        ),
+        (
+            32767,
+            &[(1026, b"all|"), (2049, b"WGS 84|"), (3073, b"My UTM|")],
+            Some("My UTM"),
+        ),
+        (
+            32767,
+            &[(1026, b"My UTM|"), (2049, b"Base|")],
+            Some("My UTM"),
+        ),
+        (32633, &[(2049, b"WGS 84|")], None),
+    ];
+    for (number, named, want) in rows {
+        let mut keys = texts(alloc, named)?;
+        keys.append(&mut numbers(alloc, &[(3072, number)])?)?;
+        let info = info_of(alloc, keys)?;
+        let system = CoordinateSystem::of(alloc, &info)?;
+        let name = match &system {
+            Some(system) => system.name.as_deref(),
+            None => None,
+        };
+        assert_eq!(rt; name, want);
     }
     Ok(())
 }
