@@ -162,7 +162,7 @@ pub(crate) fn limits_of<R: AllocGlobal>(
     })
 }
 
-/// Returns how many milliseconds pass at least before the bytes of a file that seems unchanged are compared again; `None` where they never are.
+/// Returns how many milliseconds pass at least before the bytes of a file that seems unchanged are compared again, or `None` with 0.
 pub(crate) fn millis_of(seconds: u32) -> Option<u64>
     ensures { result ≡ (if seconds == 0 then None else Some (seconds * 1000)) }
 {

@@ -62,7 +62,11 @@ fn adds_the_fields_of_an_origin(rt: HostRuntime) -> Result<(), Fail> {
 }
 
 /// Asks once, and returns whether the answer says that the connection closes.
-fn is_last(rt: &impl AllocGlobal, connection: &mut Connection, service: &Service<'_>) -> Result<bool, Fail> {
+fn is_last(
+    rt: &impl AllocGlobal,
+    connection: &mut Connection,
+    service: &Service<'_>,
+) -> Result<bool, Fail> {
     give(connection, ASKS_A)?;
     connection.go_on_by(service)?;
     let mut text = Vec::new(rt.alloc());

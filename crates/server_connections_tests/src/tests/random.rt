@@ -76,7 +76,10 @@ fn go_on(
     number: u64,
     peer: &mut Peer,
 ) -> Result<(), Fail> {
-    if connections.go_on(number, &Service::plain(server), 0)?.is_some() {
+    if connections
+        .go_on(number, &Service::plain(server), 0)?
+        .is_some()
+    {
         let answer = server.answer(peer.asks)?;
         peer.want.extend_from_slice(&answer.text)?;
     }

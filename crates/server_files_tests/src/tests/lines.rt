@@ -63,7 +63,16 @@ where
 {
     let client = connect(rt, listener.local_addr()?, ASK)?;
     let mut log = unlogged(rt);
-    if serve_connections(&mut log, server, files, listener.try_clone()?, limits(1), Additions::nothing()).is_err() {
+    if serve_connections(
+        &mut log,
+        server,
+        files,
+        listener.try_clone()?,
+        limits(1),
+        Additions::nothing(),
+    )
+    .is_err()
+    {
         return Err(Fail::new("a fault"));
     }
     Ok(io::read_to_string(rt.alloc(), client)?)
@@ -171,7 +180,17 @@ fn counts_each_connection(rt: HostRuntime) -> Result<(), Fail> {
     let _asking = connect(&rt, address, ASK)?;
     let capture = Capture::new(&rt);
     let mut log = unlogged(&capture);
-    assert!(rt; serve_connections(&mut log, &mut server, &mut [], listener, limits(3), Additions::nothing()).is_ok());
+    assert!(rt;
+        serve_connections(
+            &mut log,
+            &mut server,
+            &mut [],
+            listener,
+            limits(3),
+            Additions::nothing()
+        )
+        .is_ok()
+    );
     assert_eq!(rt;
         capture.into_texts().0.as_slice(),
         b"served 1\nserved 2\nserved 3\n".as_slice()
@@ -191,7 +210,17 @@ fn ends_where_a_client_stays(rt: HostRuntime) -> Result<(), Fail> {
     let capture = Capture::new(&rt);
     let mut log = unlogged(&capture);
     let limit = rt.monotonic()?.saturating_add(Duration::from_secs(10));
-    assert!(rt; serve_connections(&mut log, &mut server, &mut [], listener, limits(1), Additions::nothing()).is_ok());
+    assert!(rt;
+        serve_connections(
+            &mut log,
+            &mut server,
+            &mut [],
+            listener,
+            limits(1),
+            Additions::nothing()
+        )
+        .is_ok()
+    );
     assert!(rt; rt.monotonic()? < limit);
     let answer = io::read_to_string(rt.alloc(), client)?;
     assert!(rt;
@@ -213,7 +242,17 @@ fn serves_on_where_standard_output_is_closed(rt: HostRuntime) -> Result<(), Fail
     let _second = connect(&rt, address, ASK)?;
     let capture = Capture::closed(&rt);
     let mut log = unlogged(&capture);
-    assert!(rt; serve_connections(&mut log, &mut server, &mut [], listener, limits(2), Additions::nothing()).is_ok());
+    assert!(rt;
+        serve_connections(
+            &mut log,
+            &mut server,
+            &mut [],
+            listener,
+            limits(2),
+            Additions::nothing()
+        )
+        .is_ok()
+    );
     assert!(rt; capture.into_texts().0.is_empty());
     Ok(())
 }
@@ -284,7 +323,14 @@ fn ends_where_no_connection_is_accepted(rt: HostRuntime) -> Result<(), Fail> {
     let capture = Capture::new(&rt);
     let mut server = Server::new(rt.alloc(), 1);
     let mut log = unlogged(&capture);
-    let served = serve_connections(&mut log, &mut server, &mut [], deaf, limits(1), Additions::nothing());
+    let served = serve_connections(
+        &mut log,
+        &mut server,
+        &mut [],
+        deaf,
+        limits(1),
+        Additions::nothing(),
+    );
     let Err(error) = served else {
         return Err(Fail::from("it accepts"));
     };

@@ -31,7 +31,16 @@ where
     let listener = TcpListener::bind(rt, "127.0.0.1:0")?;
     let _client = connect(rt, listener.local_addr()?, text)?;
     let capture = Capture::new(rt);
-    if serve_connections(&mut logged(&capture), server, files, listener, limits(1), Additions::nothing()).is_err() {
+    if serve_connections(
+        &mut logged(&capture),
+        server,
+        files,
+        listener,
+        limits(1),
+        Additions::nothing(),
+    )
+    .is_err()
+    {
         return Err(Fail::new("a fault"));
     }
     let (_, err) = capture.into_texts();
