@@ -259,8 +259,8 @@ impl<'a> Watched<'a> {
     }
 
     /// Publishes the file if its bytes changed. One that can't be read, or is refused, keeps its old publication. It isn't read where it is
-    /// too large by its length. Nor is it where the disk says the same of it as when it was last read, unless its bytes are to be compared at
-    /// moment `now`.
+    /// too large by its length. Nor is it where the disk says the same of it as when it was last read, unless its bytes are to be compared
+    /// at moment `now`.
     pub fn publish_changed<R: Files + Clock + AllocGlobal>(
         &mut self,
         rt: &R,
