@@ -1,9 +1,10 @@
 //! The origins whose pages may read files in a browser.
-ghost use Rattle.std.specs.Prelude.{IfErr, OnOk};
+ghost use Rattle.std.specs.Prelude.{◌≡◌, IfErr, IfOk, OnOk};
 ghost use Rattle.std.specs.Option.{option_copied};
 ghost use Rattle.programs.specs.Origins.{IsOriginOrNone, NamesNoOrigin};
 
 use crate::exit::Exit;
+use cog_server::Additions;
 use command_lines::is_origin;
 
 /// Fails with `NotAnOrigin` where a word stands that is no origin.
@@ -17,4 +18,26 @@ pub fn check_origin<R: AllocGlobal>(rt: &R, word: Option<&str>) -> Result<(), Ex
         }
         _ => Ok(()),
     }
+}
+
+/// Returns what the words of a line add to answers. Fails with `NotAnOrigin` where a word stands that is no origin.
+pub fn additions_of<'a, R: AllocGlobal>(
+    rt: &R,
+    origin: Option<&'a str>,
+    announces_last: bool,
+) -> Result<Additions<'a>, Exit>
+    ensures origin { IfOk result (λ added. option_copied added.origin ≡ option_copied origin.entry) }
+    ensures ok { OnOk result (IsOriginOrNone (option_copied origin.entry)) }
+    ensures last { IfOk result (λ added. added.announces_last ≡ announces_last) }
+    ensures told { IfErr result (NamesNoOrigin (option_copied origin.entry)) }
+{
+    check_origin(rt, origin)?;
+    let origin = match origin {
+        Some(word) => Some(word.as_bytes()),
+        None => None,
+    };
+    Ok(Additions {
+        origin,
+        announces_last,
+    })
 }
