@@ -1,7 +1,9 @@
 -- Words that are read one after another.
-use Rattle.std.proofs.Common.{◌≡◌, ◌∙◌, ℕ, ◌+◌, ◌<◌, true, false, if◌then◌else◌, List, [], ◌∷◌, ◌++◌, length, get_or, drop, map, ap, codes, sym, append_assoc}
+use Rattle.std.proofs.Common.{◌≡◌, ◌∙◌, ℕ, ◌+◌, ◌<◌, true, false, if◌then◌else◌, List, [], ◌∷◌, ◌++◌, length, get_or, drop, map, take, ap, codes, sym, append_assoc}
 use Rattle.std.specs.Str.{bytes_eq}
-use Rattle.std.proofs.lemmas.List.{drop_more}
+use Rattle.std.specs.Char.{encode_utf8}
+use Rattle.std.proofs.lemmas.List.{drop_more, map-append, take_more}
+use Rattle.std.proofs.lemmas.Str.{encode_ascii}
 use Rattle.command_lines.specs.FileWord.{expected_after, is_place, places}
 use Rattle.command_lines.specs.QuickLine.{has_option, is_full, option_name, quick_app, start_app}
 use Rattle.command_lines.specs.ServeLine.{serve_app}
@@ -53,3 +55,10 @@ of_full words full = sym (ap (λ b. if b then serve_app else quick_app) full)
 
 pub of_quick : (words : List (List ℕ)) → is_full words ≡ false → quick_app ≡ start_app words
 of_quick words quick = sym (ap (λ b. if b then serve_app else quick_app) quick)
+
+-- one more byte of a name
+pub next_byte : (f : ℕ → ℕ) (bytes : List ℕ) (k d : ℕ) (old new : List ℕ) (c : ℕ) → k < length bytes → old ≡ map f (take k bytes) → c < 128
+    → c ≡ f (get_or bytes k d) → new ≡ old ++ encode_utf8 c → new ≡ map f (take (k + 1) bytes)
+next_byte f bytes k d old new c within before ascii is longer =
+    longer ∙ ap (λ e. old ++ e) (encode_ascii c ascii) ∙ ap (λ x. old ++ x ∷ []) is ∙ ap (λ o. o ++ f (get_or bytes k d) ∷ []) before
+    ∙ sym (ap (map f) (take_more bytes k d within) ∙ map-append f (take k bytes) (get_or bytes k d ∷ []))

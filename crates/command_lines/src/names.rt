@@ -1,5 +1,5 @@
 //! The names under which files are published that are given without one.
-ghost use Rattle.std.specs.Prelude.{◌≡◌, ◌<◌, IfOk, string_bytes};
+ghost use Rattle.std.specs.Prelude.{◌≡◌, ◌<◌, IfOk, map, string_bytes};
 ghost use Rattle.command_lines.specs.FileName.{name_byte, name_of_path};
 
 use std::alloc::{AllocError, Global};
@@ -17,15 +17,21 @@ fn name_byte(byte: u8) -> u8
     }
 }
 
+/// Makes a name of the bytes of a text: `_` stands in the place of each that no name has.
+fn named_as(alloc: Global, text: &str) -> Result<String, AllocError>
+    ensures { IfOk result (λ name. string_bytes name ≡ map name_byte text.now) }
+{
+    let mut name = String::new(alloc);
+    for byte in text.as_bytes() {
+        name.push(char::from(name_byte(*byte)))?;
+    }
+    Ok(name)
+}
+
 /// Makes the name of a file from its path: the last part, in which bytes that no name has become `_`. A path without one, as `..`, has
 /// the empty name, which no file has.
 pub fn name_of_path(alloc: Global, path: &str) -> Result<String, AllocError>
     ensures { IfOk result (λ name. string_bytes name ≡ name_of_path path.now) }
 {
-    let last = Path::new(path).file_name().unwrap_or("");
-    let mut name = String::new(alloc);
-    for byte in last.as_bytes() {
-        name.push(char::from(name_byte(*byte)))?;
-    }
-    Ok(name)
+    named_as(alloc, Path::new(path).file_name().unwrap_or(""))
 }
