@@ -19,6 +19,9 @@ from ._file import File, open, open_file
 from ._ground import Bounds, Crs, Transform
 from ._info import Info
 
+__version__ = '0.1.0'
+"""The version of the package, and of the header of the C library."""
+
 __all__ = ['BadUrl', 'Bounds', 'Crs', 'DirCount', 'DirPlace', 'Error', 'FieldType', 'File', 'FileFault', 'Header', 'Info', 'KeyHead',
            'KeyOrder', 'KeyPlace', 'LevelShape', 'Lost', 'Missing', 'NotUsed', 'OutOfMemory', 'Outside', 'Packet', 'PastEnd', 'TagOrder',
            'TileArray', 'TileSize', 'TooLarge', 'TooManyDirs', 'Transform', 'Unsupported', 'open', 'open_file']
