@@ -38,6 +38,8 @@ FRONT = 16
 PART = b'HTTP/1.1 206'
 GREATEST = 2 ** 32 - 1
 LONGEST = 2 ** 31 // 1000                               # seconds that poll() takes
+URL = re.compile(r'[^/]*://|https?:', re.IGNORECASE)
+"""What a URL begins with, and a path doesn't."""
 
 
 class File(Raster):
@@ -114,6 +116,12 @@ class File(Raster):
         from the smallest level in which it has that many rows and columns, and each sample is the nearest one. rasterio's arrays are
         (count, rows, columns): `numpy.moveaxis(a, -1, 0)` of an RGB file. Bounds that pass a side of the image are a `ValueError`.
 
+        Fails with `FileFault` where something is wrong with the file or the window, `NotUsed` where an answer can't be used, `Lost` where none
+        came, `Late` after the `deadline`, and `OutOfMemory`. The certificate of a server that isn't trusted is an
+        `ssl.SSLCertVerificationError`, and of a file of the disk that can't be opened the exception is that of the standard `open`. Numbers
+        outside 0 to 4,294,967,295, and a closed file, are a `ValueError`, what is no number is a `TypeError`. A use by a signal handler within
+        a call of the same file is a `RuntimeError`, and so is that call in a process which a handler makes within it.
+
         >>> f.read(x=24, y=30, width=4, height=2).tolist()
         [[216, 221, 226, 231], [217, 222, 227, 232]]
         >>> f.read(bounds=(106.24, 47.68, 106.28, 47.7)).tolist()
@@ -132,6 +140,8 @@ class File(Raster):
         """The same of a window that is given in pixels of level 0, from the smallest level in which it is at least `columns` columns wide,
         before it is rounded outwards, level 0 if there is none.
 
+        Fails as `read` does.
+
         >>> f.read_columns(x=0, y=0, width=8192, height=5632, columns=512).shape      # doctest: +SKIP
         (352, 512)
         """
@@ -141,6 +151,8 @@ class File(Raster):
                     level: Optional[SupportsIndex] = None, columns: Optional[SupportsIndex] = None) -> Tuple[NDArray[Any], str]:
         """What `read` gives, or with `columns`, and no level, what `read_columns` does, and the tag of its revision, whatever other threads
         read. Without either it is of level 0.
+
+        Fails as `read` does, and with `TypeError` for a level beside columns.
 
         >>> f.read_tagged(x=3000, y=2000, width=256, height=256)[1]                   # doctest: +SKIP
         '"1-1"'
@@ -158,6 +170,8 @@ class File(Raster):
         are read side by side over up to so many connections, 1 to 64, each with as many blocks, which are kept until `close`. Up to 64 arrays
         may lie in one piece of memory, of 4 MiB at most, or 8 MiB of 16 bits.
 
+        Fails as `read` does of one window, and gives no array then. Windows of other than four numbers are a `ValueError`.
+
         >>> [a.shape for a in f.read_windows([(0, 0, 256, 256), (3000, 2000, 64, 32)])]   # doctest: +SKIP
         [(256, 256), (32, 64)]
         """
@@ -168,6 +182,8 @@ class File(Raster):
     def info(self) -> Info:
         """What georeferences the image: keys, scale, tiepoint and transform as numbers. Where it has to be asked for it may be of a newer
         revision than what was read before: `info.tag` tells of which, to be compared with that of `read_tagged`.
+
+        Fails as `read` does.
 
         >>> f.info.scale                                                               # doctest: +SKIP
         (0.01, 0.01, 0.0)
@@ -185,7 +201,8 @@ class File(Raster):
         return self._tag if self._tag is not None else self.info.tag
 
     def same(self) -> bool:
-        """Asks whether the file still is the revision that was read last. The connection that is kept ends with it."""
+        """Asks whether the file still is the revision that was read last. The connection that is kept ends with it. Fails as `read` does, and
+        with `Error` where nothing was read yet."""
         return self._alone(self._ask)
 
     def _alone(self, do: Callable[..., Result], *words: Any) -> Result:
@@ -196,13 +213,30 @@ class File(Raster):
                 raise ValueError('the file is closed')
             self._busy = True
             self._source.begin()
+            self._source.limit.begin()
             try:
-                return do(*words)
+                return self._in_one_process(do, words)
             except Error as error:
                 error.where = self._source.where
                 raise
             finally:
                 self._busy = False
+
+    def _in_one_process(self, do: Callable[..., Result], words: Tuple[Any, ...]) -> Result:
+        """What this gives, unless a signal handler makes a process meanwhile: there the client is another one (`_forked`), and the handler may
+        have read other windows by it."""
+        process = os.getpid()
+        try:
+            result = do(*words)
+        except Exception as error:
+            if os.getpid() == process or of_handler(error):
+                raise
+        else:
+            if os.getpid() == process:
+                return result
+        self._source.close()
+        self._begin()
+        raise RuntimeError('a signal handler made a process, in which the interrupted call has no connection and no threads')
 
     def _check_idle(self) -> None:
         """The lock lets a signal handler in, whose thread has it in the call that was interrupted."""
@@ -222,10 +256,12 @@ class File(Raster):
             self._others.append(File(self._source.another(), *self._client))
         readers = [self, *self._others[:len(shares) - 1]]
 
+        until = self._source.limit.until
+
         def reading(reader: File, share: NDArray[Any]) -> Callable[[threading.Event], Set[str]]:
             if reader is self:
-                return lambda stop: reader._share(rows, share, level, arrays, stop)
-            return lambda stop: reader._alone(reader._share, rows, share, level, arrays, stop)
+                return lambda stop: reader._share(rows, share, level, arrays, stop, until)
+            return lambda stop: reader._alone(reader._share, rows, share, level, arrays, stop, until)
 
         for _ in range(TRIES):
             tags = side_by_side(list(map(reading, readers, shares)), [reader._source.abort for reader in readers])
@@ -239,12 +275,14 @@ class File(Raster):
                     reader._alone(reader._core.forget)
         raise Lost(f'the file was replaced {TRIES} times while it was read')
 
-    def _share(self, rows: NDArray[Any], share: NDArray[Any], level: int, arrays: List[Any], stop: threading.Event) -> Set[str]:
-        """Reads the windows in these rows into the list, unless it is to stop, and gives their tags."""
+    def _share(self, rows: NDArray[Any], share: NDArray[Any], level: int, arrays: List[Any], stop: threading.Event,
+               until: Optional[float]) -> Set[str]:
+        """Reads the windows in these rows into the list, unless it is to stop, or the call has its end, and gives their tags."""
         tags: Set[str] = set()
         like: Optional[Tuple[_core.Report, str]] = None
         at = 0
         self._source.begin(stop)
+        self._source.limit.until = until
         while at < len(share) and not stop.is_set():
             carried = None
             if like is not None and self._source.carries():
@@ -445,31 +483,44 @@ def _numbers(**numbers: SupportsIndex) -> List[int]:
     return [_number(name, number, 0, GREATEST) for name, number in numbers.items()]
 
 
-def _seconds(timeout: float) -> float:
-    """A timeout as sockets take it."""
-    if not isinstance(timeout, numbers.Real):
-        raise TypeError(f'timeout is {timeout!r}, and no number')
-    if not 0 < timeout <= LONGEST:
-        raise ValueError(f'timeout is {timeout!r}, and not above 0 and at most {LONGEST}')
-    return float(timeout)
+def _seconds(name: str, seconds: Optional[float]) -> Optional[float]:
+    """A number of seconds as sockets take it; None is for ever."""
+    if seconds is None:
+        return None
+    if not isinstance(seconds, numbers.Real):
+        raise TypeError(f'{name} is {seconds!r}, and no number')
+    if not 0 < seconds <= LONGEST:
+        raise ValueError(f'{name} is {seconds!r}, and not above 0 and at most {LONGEST}')
+    return float(seconds)
 
 
-def open(url: str, *, blocks: SupportsIndex = 256, timeout: Optional[float] = 30.0,
-         context: Optional[ssl.SSLContext] = None) -> File:
-    """A file behind a URL of http or https. Nothing is read yet.
+def open(place: Union[str, 'os.PathLike[str]'], *, blocks: SupportsIndex = 256, timeout: Optional[float] = 30.0,
+         deadline: Optional[float] = None, context: Optional[ssl.SSLContext] = None) -> File:
+    """A file behind a URL of http or https, or of the disk. Nothing is read yet. A text with :// after its first word, or that begins with
+    http: or https:, is a URL, and any other text and each `os.PathLike` is a path, as `open_file` takes it.
 
-    `blocks` of 16,384 bytes, 66 to 4,096, are kept of the file, and of packed tiles as many bytes unpacked; `timeout` is how many
-    seconds each attempt to connect may take (one for each address of the host), each TLS handshake, and each read and write, None for
-    ever: an exchange that brought nothing is tried three times, so `Lost` may take several of them; `context` says which certificates are
-    trusted, those of the system without it. Proxies aren't used.
+    `blocks` of 16,384 bytes, 66 to 4,096, are kept of the file, and of packed tiles as many bytes unpacked. The others are of URLs alone.
+    `timeout` is how many seconds each attempt to connect may take (one for each address of the host), each TLS handshake, and each read and
+    write, None for ever. An exchange that brought nothing is tried three times, so `Lost` may take several of them. `deadline` is how many
+    seconds a whole call may take, None for ever; after it the call fails with `Late`, which is a `Lost`. `context` says which certificates
+    are trusted, those of the system without it. Proxies aren't used.
+
+    Fails with `BadUrl` where the URL is outside the rules, with the `OSError` of the standard `open` where the path can't be opened, and with
+    `ValueError` or `TypeError` where a number is outside its limits or none.
 
     >>> with open('http://127.0.0.1:8080/a.tif') as f:                              # doctest: +SKIP
     ...     f.levels
     [(64, 64), (32, 32), (16, 16)]
+    >>> with open('docs/example.tif') as f:                                         # doctest: +SKIP
+    ...     f.levels
+    [(64, 64), (32, 32), (16, 16)]
     """
     count = _number('blocks', blocks, 66, 4096)
-    address = Address(url)
-    return File(Host(address, None if timeout is None else _seconds(timeout), context), address.netloc, address.name, count)
+    wait, most = _seconds('timeout', timeout), _seconds('deadline', deadline)
+    if not isinstance(place, str) or not URL.match(place):
+        return open_file(place, blocks=count)
+    address = Address(place)
+    return File(Host(address, wait, context, most), address.netloc, address.name, count)
 
 
 def open_file(path: Union[str, 'os.PathLike[str]'], *, blocks: SupportsIndex = 256) -> File:
