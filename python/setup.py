@@ -5,15 +5,10 @@ import re
 import shlex
 import shutil
 import subprocess
-from typing import List, Tuple
+from typing import Dict, List, Tuple, Type
 
-from setuptools import Distribution, setup
+from setuptools import Command, Distribution, setup
 from setuptools.command.build_py import build_py
-
-try:
-    from setuptools.command.bdist_wheel import bdist_wheel
-except ImportError:                                        # of setuptools below 70.1
-    from wheel.bdist_wheel import bdist_wheel
 
 HERE = pathlib.Path(__file__).resolve().parent
 CRATE = HERE.parent / 'crates/delgunsai_c'
@@ -71,7 +66,7 @@ def calls() -> List[str]:
 
 def link(words: List[str], library: pathlib.Path) -> None:
     """Links the shared library. An archive that lacks a call is told in one line: without that it would be built, and fail at import."""
-    archives = ['-Wl,--whole-archive', str(core()), '-Wl,--no-whole-archive', str(heap())]
+    archives = ['-Wl,--whole-archive', str(core()), '-Wl,--no-whole-archive', str(heap()), f'-Wl,--exclude-libs,{heap().name}']
     done = subprocess.run([*words, '-o', str(library), str(HERE / 'wire.c'), *archives], stderr=subprocess.PIPE, text=True, errors='replace')
     if done.returncode != 0:
         lacks = sorted(set(re.findall(r"(?:undefined (?:reference to|symbol:)|required symbol) [`']?(\w+)", done.stderr)))
@@ -102,11 +97,23 @@ class Binary(Distribution):
         return True
 
 
-class Wheel(bdist_wheel):
-    """A wheel for each Python 3: the shared library uses nothing of Python. DELGUNSAI_PLATFORM names its platform (build_wheel)."""
+def commands() -> Dict[str, Type[Command]]:
+    """The commands of the package's own. Where bdist_wheel isn't there, pip asks first what else is needed."""
+    try:
+        from setuptools.command.bdist_wheel import bdist_wheel
+    except ImportError:                                    # of setuptools below 70.1
+        try:
+            from wheel.bdist_wheel import bdist_wheel
+        except ImportError:
+            return {'build_py': Build}
 
-    def get_tag(self) -> Tuple[str, str, str]:
-        return 'py3', 'none', os.environ.get('DELGUNSAI_PLATFORM') or super().get_tag()[2]
+    class Wheel(bdist_wheel):
+        """A wheel for each Python 3: the shared library uses nothing of Python. DELGUNSAI_PLATFORM names its platform (build_wheel)."""
+
+        def get_tag(self) -> Tuple[str, str, str]:
+            return 'py3', 'none', os.environ.get('DELGUNSAI_PLATFORM') or super().get_tag()[2]
+
+    return {'build_py': Build, 'bdist_wheel': Wheel}
 
 
-setup(cmdclass={'build_py': Build, 'bdist_wheel': Wheel}, distclass=Binary)
+setup(cmdclass=commands(), distclass=Binary)

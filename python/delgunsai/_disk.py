@@ -7,7 +7,8 @@ import threading
 from typing import BinaryIO, Callable, Iterator, List, Optional, Tuple, Type, Union
 
 from ._core import Core, Wire
-from ._sources import FRONT, RANGE, Carried, Limit, Take
+from ._limit import Limit
+from ._sources import FRONT, RANGE, Carried, Take
 
 
 class Disk:

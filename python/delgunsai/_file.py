@@ -3,11 +3,8 @@ from __future__ import annotations
 
 import ctypes
 import dataclasses
-import numbers
-import operator
 import os
 import re
-import ssl
 import threading
 import weakref
 from typing import Any, Callable, Iterable, List, NoReturn, Optional, Sequence, Set, SupportsIndex, Tuple, TypeVar, Union
@@ -17,11 +14,12 @@ from numpy.typing import NDArray
 
 from . import _core
 from ._core import Core, Piece
-from ._disk import Disk
 from ._errors import Error, Lost, NotUsed, fault_of
+from ._handlers import of_handler
 from ._info import Info, read_info
+from ._numbers import number_of, numbers_of, rows_of
 from ._raster import Raster
-from ._sources import Address, Carried, Host, Source, of_handler
+from ._sources import Carried, Source
 from ._threads import side_by_side
 
 Result = TypeVar('Result')
@@ -36,10 +34,6 @@ CUT, REVISION, LENGTH = 1, 10, 11
 UNSATISFIABLE = 416
 FRONT = 16
 PART = b'HTTP/1.1 206'
-GREATEST = 2 ** 32 - 1
-LONGEST = 2 ** 31 // 1000                               # seconds that poll() takes
-URL = re.compile(r'[^/]*://|https?:', re.IGNORECASE)
-"""What a URL begins with, and a path doesn't."""
 
 
 class File(Raster):
@@ -116,11 +110,11 @@ class File(Raster):
         from the smallest level in which it has that many rows and columns, and each sample is the nearest one. rasterio's arrays are
         (count, rows, columns): `numpy.moveaxis(a, -1, 0)` of an RGB file. Bounds that pass a side of the image are a `ValueError`.
 
-        Fails with `FileFault` where something is wrong with the file or the window, `NotUsed` where an answer can't be used, `Lost` where none
-        came, `Late` after the `deadline`, and `OutOfMemory`. The certificate of a server that isn't trusted is an
-        `ssl.SSLCertVerificationError`, and of a file of the disk that can't be opened the exception is that of the standard `open`. Numbers
-        outside 0 to 4,294,967,295, and a closed file, are a `ValueError`, what is no number is a `TypeError`. A use by a signal handler within
-        a call of the same file is a `RuntimeError`, and so is that call in a process which a handler makes within it.
+        Fails with `FileFault` where something is wrong with the file or the window, and with `OutOfMemory`. Fails with `NotUsed` where an
+        answer can't be used, with `Lost` where none came, and with `Late` after the `deadline`. Fails with `ssl.SSLCertVerificationError`
+        where the server's certificate isn't trusted. A file of the disk that can't be opened is the exception of the standard `open`.
+        Fails with `ValueError` for numbers outside 0 to 4,294,967,295 and a closed file, and with `TypeError` for what is no number. Fails
+        with `RuntimeError` where a signal handler calls it within a call of the same file, and in a process that the handler makes there.
 
         >>> f.read(x=24, y=30, width=4, height=2).tolist()
         [[216, 221, 226, 231], [217, 222, 227, 232]]
@@ -132,7 +126,7 @@ class File(Raster):
         is_window = x is not None or y is not None or width is not None or height is not None
         if is_window and bounds is None and out_shape is None:
             window: Any = {'x': x, 'y': y, 'width': width, 'height': height, 'level': level}
-            return self._alone(self._window, self._core.open_window, _numbers(**window))[0]
+            return self._alone(self._window, self._core.open_window, numbers_of(**window))[0]
         return self._read_as(x, y, width, height, level, bounds, out_shape)
 
     def read_columns(self, *, x: SupportsIndex, y: SupportsIndex, width: SupportsIndex, height: SupportsIndex,
@@ -145,7 +139,7 @@ class File(Raster):
         >>> f.read_columns(x=0, y=0, width=8192, height=5632, columns=512).shape      # doctest: +SKIP
         (352, 512)
         """
-        return self._alone(self._window, self._core.open_columns, _numbers(x=x, y=y, width=width, height=height, columns=columns))[0]
+        return self._alone(self._window, self._core.open_columns, numbers_of(x=x, y=y, width=width, height=height, columns=columns))[0]
 
     def read_tagged(self, *, x: SupportsIndex, y: SupportsIndex, width: SupportsIndex, height: SupportsIndex,
                     level: Optional[SupportsIndex] = None, columns: Optional[SupportsIndex] = None) -> Tuple[NDArray[Any], str]:
@@ -159,10 +153,10 @@ class File(Raster):
         """
         if columns is None:
             level = 0 if level is None else level
-            return self._alone(self._window, self._core.open_window, _numbers(x=x, y=y, width=width, height=height, level=level))
+            return self._alone(self._window, self._core.open_window, numbers_of(x=x, y=y, width=width, height=height, level=level))
         if level is not None:
             raise TypeError('level or columns, and not both')
-        return self._alone(self._window, self._core.open_columns, _numbers(x=x, y=y, width=width, height=height, columns=columns))
+        return self._alone(self._window, self._core.open_columns, numbers_of(x=x, y=y, width=width, height=height, columns=columns))
 
     def read_windows(self, windows: Iterable[Sequence[SupportsIndex]], *, level: SupportsIndex = 0,
                      connections: SupportsIndex = 8) -> List[NDArray[Any]]:
@@ -175,8 +169,8 @@ class File(Raster):
         >>> [a.shape for a in f.read_windows([(0, 0, 256, 256), (3000, 2000, 64, 32)])]   # doctest: +SKIP
         [(256, 256), (32, 64)]
         """
-        number, = _numbers(level=level)
-        return self._alone(self._windows, _rows(windows), number, _number('connections', connections, 1, 64))
+        number, = numbers_of(level=level)
+        return self._alone(self._windows, rows_of(windows), number, number_of('connections', connections, 1, 64))
 
     @property
     def info(self) -> Info:
@@ -438,20 +432,6 @@ def _status_of(front: bytes) -> Optional[int]:
     return int(found[1]) if found else None
 
 
-def _rows(windows: Iterable[Sequence[SupportsIndex]]) -> NDArray[Any]:
-    """The windows as rows of x, y, width and height."""
-    given: Any = windows if isinstance(windows, numpy.ndarray) else list(windows)
-    if len(given) == 0:
-        return numpy.zeros((0, 4), 'i8')
-    try:
-        rows = numpy.asarray(given)
-    except ValueError:                                     # not four of each
-        rows = numpy.zeros(0)
-    if rows.dtype.kind in 'iu' and rows.ndim == 2 and rows.shape[1] == 4 and rows.min() >= 0 and rows.max() <= GREATEST:
-        return rows.astype('i8')
-    return numpy.array([_numbers(x=x, y=y, width=width, height=height) for x, y, width, height in given], 'i8')
-
-
 _files: weakref.WeakSet[File] = weakref.WeakSet()
 
 
@@ -466,69 +446,3 @@ def _forked() -> None:
 
 
 os.register_at_fork(after_in_child=_forked)
-
-
-def _number(name: str, number: SupportsIndex, least: int, greatest: int) -> int:
-    """This number as it crosses to the core, an int, an integer of numpy or what else is one."""
-    try:
-        index = operator.index(number)
-    except TypeError:
-        raise TypeError(f'{name} is {number!r}, and no integer') from None
-    if not least <= index <= greatest:
-        raise ValueError(f'{name} is {index}, and not {least} to {greatest}')
-    return index
-
-
-def _numbers(**numbers: SupportsIndex) -> List[int]:
-    return [_number(name, number, 0, GREATEST) for name, number in numbers.items()]
-
-
-def _seconds(name: str, seconds: Optional[float]) -> Optional[float]:
-    """A number of seconds as sockets take it; None is for ever."""
-    if seconds is None:
-        return None
-    if not isinstance(seconds, numbers.Real):
-        raise TypeError(f'{name} is {seconds!r}, and no number')
-    if not 0 < seconds <= LONGEST:
-        raise ValueError(f'{name} is {seconds!r}, and not above 0 and at most {LONGEST}')
-    return float(seconds)
-
-
-def open(place: Union[str, 'os.PathLike[str]'], *, blocks: SupportsIndex = 256, timeout: Optional[float] = 30.0,
-         deadline: Optional[float] = None, context: Optional[ssl.SSLContext] = None) -> File:
-    """A file behind a URL of http or https, or of the disk. Nothing is read yet. A text with :// after its first word, or that begins with
-    http: or https:, is a URL, and any other text and each `os.PathLike` is a path, as `open_file` takes it.
-
-    `blocks` of 16,384 bytes, 66 to 4,096, are kept of the file, and of packed tiles as many bytes unpacked. The others are of URLs alone.
-    `timeout` is how many seconds each attempt to connect may take (one for each address of the host), each TLS handshake, and each read and
-    write, None for ever. An exchange that brought nothing is tried three times, so `Lost` may take several of them. `deadline` is how many
-    seconds a whole call may take, None for ever; after it the call fails with `Late`, which is a `Lost`. `context` says which certificates
-    are trusted, those of the system without it. Proxies aren't used.
-
-    Fails with `BadUrl` where the URL is outside the rules, with the `OSError` of the standard `open` where the path can't be opened, and with
-    `ValueError` or `TypeError` where a number is outside its limits or none.
-
-    >>> with open('http://127.0.0.1:8080/a.tif') as f:                              # doctest: +SKIP
-    ...     f.levels
-    [(64, 64), (32, 32), (16, 16)]
-    >>> with open('docs/example.tif') as f:                                         # doctest: +SKIP
-    ...     f.levels
-    [(64, 64), (32, 32), (16, 16)]
-    """
-    count = _number('blocks', blocks, 66, 4096)
-    wait, most = _seconds('timeout', timeout), _seconds('deadline', deadline)
-    if not isinstance(place, str) or not URL.match(place):
-        return open_file(place, blocks=count)
-    address = Address(place)
-    return File(Host(address, wait, context, most), address.netloc, address.name, count)
-
-
-def open_file(path: Union[str, 'os.PathLike[str]'], *, blocks: SupportsIndex = 256) -> File:
-    """A file of the disk. It is read by ranges too, and may be replaced. Where it isn't there, is a folder or may not be read, now or
-    later, the exception is that of the standard `open`.
-
-    >>> with open_file('docs/example.tif') as f:                                    # doctest: +SKIP
-    ...     f.levels
-    [(64, 64), (32, 32), (16, 16)]
-    """
-    return File(Disk(path), b'disk', b'file', _number('blocks', blocks, 66, 4096))

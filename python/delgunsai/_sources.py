@@ -11,19 +11,17 @@ import math
 import os
 import re
 import select
-import signal
 import socket
 import ssl
 import threading
-import time
-import traceback
-from types import CodeType
 from typing import Callable, List, NamedTuple, Optional, Protocol, Tuple, Type
 from urllib.parse import urlsplit
 
 from . import _core
 from ._core import Core, Front, Piece, Stop, Wire
 from ._errors import BadUrl, Late, Lost, OutOfMemory
+from ._handlers import of_handler
+from ._limit import Limit
 
 PIECE = 1 << 17
 HEAD_ROOM = 4096
@@ -42,19 +40,6 @@ Take = Callable[[Piece], None]
 """Takes a piece, which has other bytes once the call returned."""
 
 
-def _code_of(handler: object) -> Optional[CodeType]:
-    """The code that a signal handler runs, where it is Python's."""
-    while isinstance(handler, functools.partial):
-        handler = handler.func
-    return getattr(handler, '__code__', None) or getattr(getattr(handler, '__call__', None), '__code__', None)
-
-
-def of_handler(error: Exception) -> bool:
-    """Whether a signal handler raised this, as TimeoutError at a deadline: then it tells nothing of a connection or an answer."""
-    handlers = {_code_of(signal.getsignal(number)) for number in signal.valid_signals()}
-    return any(frame.f_code in handlers for frame, _ in traceback.walk_tb(error.__traceback__))
-
-
 class Stopped(Exception):
     """Another part of the same call raised an exception: this part ends."""
 
@@ -69,31 +54,6 @@ class Carried(NamedTuple):
     """What the core says of the last answer, where that was cut or brought nothing; else 0."""
     lost: Optional[Exception] = None
     """Why the rest of it is lost; None too where the other end ended it."""
-
-
-class Limit:
-    """How many seconds each wait may take, and when the call ends that is made, by the monotonic clock. None is for ever."""
-
-    def __init__(self, timeout: Optional[float], deadline: Optional[float]) -> None:
-        self._timeout, self.deadline = timeout, deadline
-        self.until: Optional[float] = None
-
-    def begin(self) -> None:
-        """Begins a call."""
-        self.until = None if self.deadline is None else time.monotonic() + self.deadline
-
-    def check(self) -> None:
-        """Fails with `Late` after the call's end."""
-        if self.until is not None and time.monotonic() >= self.until:
-            raise Late(f'the call was not done within {self.deadline:g} seconds')
-
-    def wait(self) -> Optional[float]:
-        """Returns how many seconds the next wait may take. Fails with `Late` after the call's end."""
-        self.check()
-        if self.until is None:
-            return self._timeout
-        rest = max(0.001, self.until - time.monotonic())
-        return rest if self._timeout is None else min(self._timeout, rest)
 
 
 class Source(Protocol):

@@ -61,6 +61,8 @@ class Built(unittest.TestCase):
         with open(os.path.join(TOP, 'include/delgunsai.h')) as file:
             self.assertIn(f'#define DELGUNSAI_VERSION "{delgunsai.__version__}"\n', file.read())
         self.assertEqual(len(glob.glob(os.path.join(self.place, f'delgunsai-{delgunsai.__version__}.dist-info'))), 1)
+        names = subprocess.run(['nm', '-D', '--defined-only', os.path.join(self.place, 'delgunsai/libdelgunsai.so')], capture_output=True, text=True)
+        self.assertEqual({line.split()[2].split('_')[0] for line in names.stdout.splitlines()}, {'cog', 'delgunsai'})
 
     def test_wheel(self):
         """One command makes it. It is used where neither the kit nor a compiler is."""
