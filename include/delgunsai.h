@@ -1,8 +1,8 @@
 /* The client's core of Delgunsai for C: it reads windows of Cloud Optimized GeoTIFF files over HTTP byte ranges, and needs no
  * socket. It gives the texts of requests, takes the bytes of answers, and reports.
  *
- * Link with libdelgunsai_c.a, which `rt lib` proves and builds in crates/delgunsai_c/out, and with the kit's liblibc_c.a, which
- * brings its heap over malloc, realloc and free. docs/LIBRARY.md has the line of cc.
+ * Link with libdelgunsai, which include/install makes of what `rt lib` proves and builds. It needs the C library alone.
+ * docs/LIBRARY.md has the lines.
  *
  *     struct cog_client client = {0};
  *     struct cog_report report;
@@ -34,8 +34,10 @@
  *     call writes to, another pointer of the same call isn't to.
  *   - Any call but cog_client_new and cog_client_free of a client that was never made, or is freed, gives COG_NO_CLIENT and does
  *     nothing else.
- *   - A handle is used by one call at a time, and by the thread that made its client. It may be moved to another place in memory, and
- *     isn't copied to be used twice.
+ *   - A handle is used by one call at a time. It may be moved to another place in memory, and isn't copied to be used twice.
+ *   - A thread that calls cog_client_new makes all further calls of that handle, cog_client_free too. Threads with clients of their own
+ *     call at the same time: two clients share nothing. Any thread calls cog_swap_pairs. The Python package calls one client from
+ *     several threads, one at a time under a lock. That is tested, and not proved.
  *   - malloc, realloc and free are of one allocator. No call is made from a signal handler, nor in the forked child of a process with
  *     threads.
  *   - A negative result is one of COG_..; the others are said with each call.
@@ -53,6 +55,9 @@
 #ifdef __cplusplus
 extern "C" {
 #endif
+
+/* The version of this header, and of the library that is installed with it. */
+#define DELGUNSAI_VERSION "0.1.0"
 
 /* Why a call gives no answer. */
 enum {

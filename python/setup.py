@@ -1,12 +1,13 @@
 """Compiles the shared library from wire.c and the static ones with cc, or says what is missing."""
 import os
 import pathlib
+import re
 import shlex
 import shutil
 import subprocess
-from typing import List
+from typing import Dict, List, Tuple, Type
 
-from setuptools import Distribution, setup
+from setuptools import Command, Distribution, setup
 from setuptools.command.build_py import build_py
 
 HERE = pathlib.Path(__file__).resolve().parent
@@ -57,6 +58,24 @@ def compiler() -> List[str]:
         raise SystemExit(f'CC is {words!r}: {error}') from None
 
 
+def calls() -> List[str]:
+    """The calls of the library that _core.py makes."""
+    text = (HERE / 'delgunsai/_core.py').read_text()
+    return sorted({f'cog_client_{name}' for name in re.findall(r"(?m)^        '(\w+)': \(", text)} | set(re.findall(r'_library\.(cog_\w+)', text)))
+
+
+def link(words: List[str], library: pathlib.Path) -> None:
+    """Links the shared library. An archive that lacks a call is told in one line: without that it would be built, and fail at import."""
+    archives = ['-Wl,--whole-archive', str(core()), '-Wl,--no-whole-archive', str(heap()), f'-Wl,--exclude-libs,{heap().name}']
+    done = subprocess.run([*words, '-o', str(library), str(HERE / 'wire.c'), *archives], stderr=subprocess.PIPE, text=True, errors='replace')
+    if done.returncode != 0:
+        lacks = sorted(set(re.findall(r"(?:undefined (?:reference to|symbol:)|required symbol) [`']?(\w+)", done.stderr)))
+        if lacks:
+            rest = f' and {len(lacks) - 1} more' if len(lacks) > 1 else ''
+            raise SystemExit(f'missing: {lacks[0]}{rest}, in {archives[1]} and {archives[3]}: name whole archives of this version')
+        raise SystemExit(done.stderr)
+
+
 class Build(build_py):
     """Builds the modules, and the shared library beside them: beside the sources where these are what is imported (pip install -e)."""
 
@@ -67,8 +86,8 @@ class Build(build_py):
             raise SystemExit(f'missing: {words[0]}: a C compiler, or set CC to one')
         folder = (HERE if self.editable_mode else pathlib.Path(self.build_lib)) / 'delgunsai'
         folder.mkdir(parents=True, exist_ok=True)
-        subprocess.run([*words, '-O2', '-fPIC', '-shared', '-o', str(folder / 'libdelgunsai.so'), str(HERE / 'wire.c'),
-                        '-Wl,--whole-archive', str(core()), '-Wl,--no-whole-archive', str(heap())], check=True)
+        link([*words, '-O2', '-fPIC', '-shared', '-Wl,-z,defs', *(f'-Wl,--require-defined={name}' for name in calls())],
+             folder / 'libdelgunsai.so')
 
 
 class Binary(Distribution):
@@ -78,4 +97,23 @@ class Binary(Distribution):
         return True
 
 
-setup(cmdclass={'build_py': Build}, distclass=Binary)
+def commands() -> Dict[str, Type[Command]]:
+    """The commands of the package's own. Where bdist_wheel isn't there, pip asks first what else is needed."""
+    try:
+        from setuptools.command.bdist_wheel import bdist_wheel
+    except ImportError:                                    # of setuptools below 70.1
+        try:
+            from wheel.bdist_wheel import bdist_wheel
+        except ImportError:
+            return {'build_py': Build}
+
+    class Wheel(bdist_wheel):
+        """A wheel for each Python 3: the shared library uses nothing of Python. DELGUNSAI_PLATFORM names its platform (build_wheel)."""
+
+        def get_tag(self) -> Tuple[str, str, str]:
+            return 'py3', 'none', os.environ.get('DELGUNSAI_PLATFORM') or super().get_tag()[2]
+
+    return {'build_py': Build, 'bdist_wheel': Wheel}
+
+
+setup(cmdclass=commands(), distclass=Binary)

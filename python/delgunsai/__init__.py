@@ -12,13 +12,17 @@ by PackBits, from servers that answer ranges under a strong tag; docs/PROFILE.md
 
 What is asked for, how answers are taken, and what is reported, is the proved core's (delgunsai.h); this package brings the network.
 """
-from ._errors import (BadUrl, DirCount, DirPlace, Error, FieldType, FileFault, Header, KeyHead, KeyOrder, KeyPlace, LevelShape, Lost,
-                      Missing, NotUsed, OutOfMemory, Outside, Packet, PastEnd, TagOrder, TileArray, TileSize, TooLarge, TooManyDirs,
+from ._errors import (BadUrl, DirCount, DirPlace, Error, FieldType, FileFault, Header, KeyHead, KeyOrder, KeyPlace, Late, LevelShape,
+                      Lost, Missing, NotUsed, OutOfMemory, Outside, Packet, PastEnd, TagOrder, TileArray, TileSize, TooLarge, TooManyDirs,
                       Unsupported)
-from ._file import File, open, open_file
+from ._file import File
 from ._ground import Bounds, Crs, Transform
 from ._info import Info
+from ._open import open, open_file
+
+__version__ = '0.1.0'
+"""The version of the package, and of the header of the C library."""
 
 __all__ = ['BadUrl', 'Bounds', 'Crs', 'DirCount', 'DirPlace', 'Error', 'FieldType', 'File', 'FileFault', 'Header', 'Info', 'KeyHead',
-           'KeyOrder', 'KeyPlace', 'LevelShape', 'Lost', 'Missing', 'NotUsed', 'OutOfMemory', 'Outside', 'Packet', 'PastEnd', 'TagOrder',
+           'KeyOrder', 'KeyPlace', 'Late', 'LevelShape', 'Lost', 'Missing', 'NotUsed', 'OutOfMemory', 'Outside', 'Packet', 'PastEnd', 'TagOrder',
            'TileArray', 'TileSize', 'TooLarge', 'TooManyDirs', 'Transform', 'Unsupported', 'open', 'open_file']

@@ -7,6 +7,7 @@ import threading
 from typing import BinaryIO, Callable, Iterator, List, Optional, Tuple, Type, Union
 
 from ._core import Core, Wire
+from ._limit import Limit
 from ._sources import FRONT, RANGE, Carried, Take
 
 
@@ -20,6 +21,7 @@ class Disk:
 
     def __init__(self, path: Union[str, os.PathLike[str]]) -> None:
         name = os.fsdecode(path)
+        self.limit = Limit(None, None)
         with open(path, 'rb'):
             pass
         self.where = name if os.path.isabs(name) else os.path.join(os.getcwd(), name)

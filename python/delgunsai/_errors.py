@@ -40,6 +40,10 @@ class Lost(Error, OSError):
     was read; or 65,536 exchanges brought no report."""
 
 
+class Late(Lost):
+    """The call took longer than the `deadline` of `open`. Nothing is asked again, and the next call may be made."""
+
+
 class NotUsed(Error):
     """The server's answer can't be used.
 

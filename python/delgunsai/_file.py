@@ -3,11 +3,8 @@ from __future__ import annotations
 
 import ctypes
 import dataclasses
-import numbers
-import operator
 import os
 import re
-import ssl
 import threading
 import weakref
 from typing import Any, Callable, Iterable, List, NoReturn, Optional, Sequence, Set, SupportsIndex, Tuple, TypeVar, Union
@@ -17,11 +14,12 @@ from numpy.typing import NDArray
 
 from . import _core
 from ._core import Core, Piece
-from ._disk import Disk
 from ._errors import Error, Lost, NotUsed, fault_of
+from ._handlers import of_handler
 from ._info import Info, read_info
+from ._numbers import number_of, numbers_of, rows_of
 from ._raster import Raster
-from ._sources import Address, Carried, Host, Source, of_handler
+from ._sources import Carried, Source
 from ._threads import side_by_side
 
 Result = TypeVar('Result')
@@ -36,8 +34,6 @@ CUT, REVISION, LENGTH = 1, 10, 11
 UNSATISFIABLE = 416
 FRONT = 16
 PART = b'HTTP/1.1 206'
-GREATEST = 2 ** 32 - 1
-LONGEST = 2 ** 31 // 1000                               # seconds that poll() takes
 
 
 class File(Raster):
@@ -114,6 +110,12 @@ class File(Raster):
         from the smallest level in which it has that many rows and columns, and each sample is the nearest one. rasterio's arrays are
         (count, rows, columns): `numpy.moveaxis(a, -1, 0)` of an RGB file. Bounds that pass a side of the image are a `ValueError`.
 
+        Fails with `FileFault` where something is wrong with the file or the window, and with `OutOfMemory`. Fails with `NotUsed` where an
+        answer can't be used, with `Lost` where none came, and with `Late` after the `deadline`. Fails with `ssl.SSLCertVerificationError`
+        where the server's certificate isn't trusted. A file of the disk that can't be opened is the exception of the standard `open`.
+        Fails with `ValueError` for numbers outside 0 to 4,294,967,295 and a closed file, and with `TypeError` for what is no number. Fails
+        with `RuntimeError` where a signal handler calls it within a call of the same file, and in a process that the handler makes there.
+
         >>> f.read(x=24, y=30, width=4, height=2).tolist()
         [[216, 221, 226, 231], [217, 222, 227, 232]]
         >>> f.read(bounds=(106.24, 47.68, 106.28, 47.7)).tolist()
@@ -124,7 +126,7 @@ class File(Raster):
         is_window = x is not None or y is not None or width is not None or height is not None
         if is_window and bounds is None and out_shape is None:
             window: Any = {'x': x, 'y': y, 'width': width, 'height': height, 'level': level}
-            return self._alone(self._window, self._core.open_window, _numbers(**window))[0]
+            return self._alone(self._window, self._core.open_window, numbers_of(**window))[0]
         return self._read_as(x, y, width, height, level, bounds, out_shape)
 
     def read_columns(self, *, x: SupportsIndex, y: SupportsIndex, width: SupportsIndex, height: SupportsIndex,
@@ -132,25 +134,29 @@ class File(Raster):
         """The same of a window that is given in pixels of level 0, from the smallest level in which it is at least `columns` columns wide,
         before it is rounded outwards, level 0 if there is none.
 
+        Fails as `read` does.
+
         >>> f.read_columns(x=0, y=0, width=8192, height=5632, columns=512).shape      # doctest: +SKIP
         (352, 512)
         """
-        return self._alone(self._window, self._core.open_columns, _numbers(x=x, y=y, width=width, height=height, columns=columns))[0]
+        return self._alone(self._window, self._core.open_columns, numbers_of(x=x, y=y, width=width, height=height, columns=columns))[0]
 
     def read_tagged(self, *, x: SupportsIndex, y: SupportsIndex, width: SupportsIndex, height: SupportsIndex,
                     level: Optional[SupportsIndex] = None, columns: Optional[SupportsIndex] = None) -> Tuple[NDArray[Any], str]:
         """What `read` gives, or with `columns`, and no level, what `read_columns` does, and the tag of its revision, whatever other threads
         read. Without either it is of level 0.
 
+        Fails as `read` does, and with `TypeError` for a level beside columns.
+
         >>> f.read_tagged(x=3000, y=2000, width=256, height=256)[1]                   # doctest: +SKIP
         '"1-1"'
         """
         if columns is None:
             level = 0 if level is None else level
-            return self._alone(self._window, self._core.open_window, _numbers(x=x, y=y, width=width, height=height, level=level))
+            return self._alone(self._window, self._core.open_window, numbers_of(x=x, y=y, width=width, height=height, level=level))
         if level is not None:
             raise TypeError('level or columns, and not both')
-        return self._alone(self._window, self._core.open_columns, _numbers(x=x, y=y, width=width, height=height, columns=columns))
+        return self._alone(self._window, self._core.open_columns, numbers_of(x=x, y=y, width=width, height=height, columns=columns))
 
     def read_windows(self, windows: Iterable[Sequence[SupportsIndex]], *, level: SupportsIndex = 0,
                      connections: SupportsIndex = 8) -> List[NDArray[Any]]:
@@ -158,16 +164,20 @@ class File(Raster):
         are read side by side over up to so many connections, 1 to 64, each with as many blocks, which are kept until `close`. Up to 64 arrays
         may lie in one piece of memory, of 4 MiB at most, or 8 MiB of 16 bits.
 
+        Fails as `read` does of one window, and gives no array then. Windows of other than four numbers are a `ValueError`.
+
         >>> [a.shape for a in f.read_windows([(0, 0, 256, 256), (3000, 2000, 64, 32)])]   # doctest: +SKIP
         [(256, 256), (32, 64)]
         """
-        number, = _numbers(level=level)
-        return self._alone(self._windows, _rows(windows), number, _number('connections', connections, 1, 64))
+        number, = numbers_of(level=level)
+        return self._alone(self._windows, rows_of(windows), number, number_of('connections', connections, 1, 64))
 
     @property
     def info(self) -> Info:
         """What georeferences the image: keys, scale, tiepoint and transform as numbers. Where it has to be asked for it may be of a newer
         revision than what was read before: `info.tag` tells of which, to be compared with that of `read_tagged`.
+
+        Fails as `read` does.
 
         >>> f.info.scale                                                               # doctest: +SKIP
         (0.01, 0.01, 0.0)
@@ -185,7 +195,8 @@ class File(Raster):
         return self._tag if self._tag is not None else self.info.tag
 
     def same(self) -> bool:
-        """Asks whether the file still is the revision that was read last. The connection that is kept ends with it."""
+        """Asks whether the file still is the revision that was read last. The connection that is kept ends with it. Fails as `read` does, and
+        with `Error` where nothing was read yet."""
         return self._alone(self._ask)
 
     def _alone(self, do: Callable[..., Result], *words: Any) -> Result:
@@ -196,13 +207,30 @@ class File(Raster):
                 raise ValueError('the file is closed')
             self._busy = True
             self._source.begin()
+            self._source.limit.begin()
             try:
-                return do(*words)
+                return self._in_one_process(do, words)
             except Error as error:
                 error.where = self._source.where
                 raise
             finally:
                 self._busy = False
+
+    def _in_one_process(self, do: Callable[..., Result], words: Tuple[Any, ...]) -> Result:
+        """What this gives, unless a signal handler makes a process meanwhile: there the client is another one (`_forked`), and the handler may
+        have read other windows by it."""
+        process = os.getpid()
+        try:
+            result = do(*words)
+        except Exception as error:
+            if os.getpid() == process or of_handler(error):
+                raise
+        else:
+            if os.getpid() == process:
+                return result
+        self._source.close()
+        self._begin()
+        raise RuntimeError('a signal handler made a process, in which the interrupted call has no connection and no threads')
 
     def _check_idle(self) -> None:
         """The lock lets a signal handler in, whose thread has it in the call that was interrupted."""
@@ -222,10 +250,12 @@ class File(Raster):
             self._others.append(File(self._source.another(), *self._client))
         readers = [self, *self._others[:len(shares) - 1]]
 
+        until = self._source.limit.until
+
         def reading(reader: File, share: NDArray[Any]) -> Callable[[threading.Event], Set[str]]:
             if reader is self:
-                return lambda stop: reader._share(rows, share, level, arrays, stop)
-            return lambda stop: reader._alone(reader._share, rows, share, level, arrays, stop)
+                return lambda stop: reader._share(rows, share, level, arrays, stop, until)
+            return lambda stop: reader._alone(reader._share, rows, share, level, arrays, stop, until)
 
         for _ in range(TRIES):
             tags = side_by_side(list(map(reading, readers, shares)), [reader._source.abort for reader in readers])
@@ -239,12 +269,14 @@ class File(Raster):
                     reader._alone(reader._core.forget)
         raise Lost(f'the file was replaced {TRIES} times while it was read')
 
-    def _share(self, rows: NDArray[Any], share: NDArray[Any], level: int, arrays: List[Any], stop: threading.Event) -> Set[str]:
-        """Reads the windows in these rows into the list, unless it is to stop, and gives their tags."""
+    def _share(self, rows: NDArray[Any], share: NDArray[Any], level: int, arrays: List[Any], stop: threading.Event,
+               until: Optional[float]) -> Set[str]:
+        """Reads the windows in these rows into the list, unless it is to stop, or the call has its end, and gives their tags."""
         tags: Set[str] = set()
         like: Optional[Tuple[_core.Report, str]] = None
         at = 0
         self._source.begin(stop)
+        self._source.limit.until = until
         while at < len(share) and not stop.is_set():
             carried = None
             if like is not None and self._source.carries():
@@ -400,20 +432,6 @@ def _status_of(front: bytes) -> Optional[int]:
     return int(found[1]) if found else None
 
 
-def _rows(windows: Iterable[Sequence[SupportsIndex]]) -> NDArray[Any]:
-    """The windows as rows of x, y, width and height."""
-    given: Any = windows if isinstance(windows, numpy.ndarray) else list(windows)
-    if len(given) == 0:
-        return numpy.zeros((0, 4), 'i8')
-    try:
-        rows = numpy.asarray(given)
-    except ValueError:                                     # not four of each
-        rows = numpy.zeros(0)
-    if rows.dtype.kind in 'iu' and rows.ndim == 2 and rows.shape[1] == 4 and rows.min() >= 0 and rows.max() <= GREATEST:
-        return rows.astype('i8')
-    return numpy.array([_numbers(x=x, y=y, width=width, height=height) for x, y, width, height in given], 'i8')
-
-
 _files: weakref.WeakSet[File] = weakref.WeakSet()
 
 
@@ -428,56 +446,3 @@ def _forked() -> None:
 
 
 os.register_at_fork(after_in_child=_forked)
-
-
-def _number(name: str, number: SupportsIndex, least: int, greatest: int) -> int:
-    """This number as it crosses to the core, an int, an integer of numpy or what else is one."""
-    try:
-        index = operator.index(number)
-    except TypeError:
-        raise TypeError(f'{name} is {number!r}, and no integer') from None
-    if not least <= index <= greatest:
-        raise ValueError(f'{name} is {index}, and not {least} to {greatest}')
-    return index
-
-
-def _numbers(**numbers: SupportsIndex) -> List[int]:
-    return [_number(name, number, 0, GREATEST) for name, number in numbers.items()]
-
-
-def _seconds(timeout: float) -> float:
-    """A timeout as sockets take it."""
-    if not isinstance(timeout, numbers.Real):
-        raise TypeError(f'timeout is {timeout!r}, and no number')
-    if not 0 < timeout <= LONGEST:
-        raise ValueError(f'timeout is {timeout!r}, and not above 0 and at most {LONGEST}')
-    return float(timeout)
-
-
-def open(url: str, *, blocks: SupportsIndex = 256, timeout: Optional[float] = 30.0,
-         context: Optional[ssl.SSLContext] = None) -> File:
-    """A file behind a URL of http or https. Nothing is read yet.
-
-    `blocks` of 16,384 bytes, 66 to 4,096, are kept of the file, and of packed tiles as many bytes unpacked; `timeout` is how many
-    seconds each attempt to connect may take (one for each address of the host), each TLS handshake, and each read and write, None for
-    ever: an exchange that brought nothing is tried three times, so `Lost` may take several of them; `context` says which certificates are
-    trusted, those of the system without it. Proxies aren't used.
-
-    >>> with open('http://127.0.0.1:8080/a.tif') as f:                              # doctest: +SKIP
-    ...     f.levels
-    [(64, 64), (32, 32), (16, 16)]
-    """
-    count = _number('blocks', blocks, 66, 4096)
-    address = Address(url)
-    return File(Host(address, None if timeout is None else _seconds(timeout), context), address.netloc, address.name, count)
-
-
-def open_file(path: Union[str, 'os.PathLike[str]'], *, blocks: SupportsIndex = 256) -> File:
-    """A file of the disk. It is read by ranges too, and may be replaced. Where it isn't there, is a folder or may not be read, now or
-    later, the exception is that of the standard `open`.
-
-    >>> with open_file('docs/example.tif') as f:                                    # doctest: +SKIP
-    ...     f.levels
-    [(64, 64), (32, 32), (16, 16)]
-    """
-    return File(Disk(path), b'disk', b'file', _number('blocks', blocks, 66, 4096))

@@ -11,18 +11,17 @@ import math
 import os
 import re
 import select
-import signal
 import socket
 import ssl
 import threading
-import traceback
-from types import CodeType
 from typing import Callable, List, NamedTuple, Optional, Protocol, Tuple, Type
 from urllib.parse import urlsplit
 
 from . import _core
 from ._core import Core, Front, Piece, Stop, Wire
-from ._errors import BadUrl, Lost, OutOfMemory
+from ._errors import BadUrl, Late, Lost, OutOfMemory
+from ._handlers import of_handler
+from ._limit import Limit
 
 PIECE = 1 << 17
 HEAD_ROOM = 4096
@@ -39,19 +38,6 @@ BARE = re.compile(rb'(?<!\r)\n')
 LATE = (socket.timeout, TimeoutError)                    # one class from Python 3.10 on
 Take = Callable[[Piece], None]
 """Takes a piece, which has other bytes once the call returned."""
-
-
-def _code_of(handler: object) -> Optional[CodeType]:
-    """The code that a signal handler runs, where it is Python's."""
-    while isinstance(handler, functools.partial):
-        handler = handler.func
-    return getattr(handler, '__code__', None) or getattr(getattr(handler, '__call__', None), '__code__', None)
-
-
-def of_handler(error: Exception) -> bool:
-    """Whether a signal handler raised this, as TimeoutError at a deadline: then it tells nothing of a connection or an answer."""
-    handlers = {_code_of(signal.getsignal(number)) for number in signal.valid_signals()}
-    return any(frame.f_code in handlers for frame, _ in traceback.walk_tb(error.__traceback__))
 
 
 class Stopped(Exception):
@@ -83,6 +69,8 @@ class Source(Protocol):
     """The requests that were sent and aren't answered, in order."""
     final: Tuple[Type[OSError], ...]
     """After which errors no other exchange is tried."""
+    limit: Limit
+    """How long the call may take."""
 
     def exchange(self, request: bytes, later: List[bytes], take: Take) -> None:
         """Hands each piece of the answer to `take`, in order; an OSError where the rest of the answer is lost. Requests that will come
@@ -178,20 +166,21 @@ class _Head:
             self.length = min(self.length, most)
 
 
-def _connected(address: Tuple[str, int], timeout: Optional[float], _source: object) -> socket.socket:
+def _connected(limit: Limit, address: Tuple[str, int], _timeout: Optional[float], _source: object) -> socket.socket:
     """What socket.create_connection gives, which after an error that a signal handler raises goes on to the host's next address, too."""
     failed = OSError('the host has no address')
     for family, kind, protocol, _, place in socket.getaddrinfo(*address, type=socket.SOCK_STREAM):
         made: Optional[socket.socket] = None
         try:
             made = socket.socket(family, kind, protocol)
-            made.settimeout(timeout)
+            made.settimeout(limit.wait())
             made.connect(place)
+            made.settimeout(limit.wait())
             return made
         except BaseException as error:
             if made is not None:
                 made.close()
-            if not isinstance(error, OSError) or of_handler(error):
+            if not isinstance(error, OSError) or isinstance(error, Late) or of_handler(error):
                 raise
             failed = error.with_traceback(None)            # whose frame holds it
     raise failed
@@ -210,17 +199,19 @@ class Host:
     come later are sent on it at once (pipelining, RFC 9112, section 9.3.2), until three times in a row such ones weren't answered, or once
     not in time. Redirects aren't followed: they are answers that can't be used. A process that was forked makes a connection of its own."""
 
-    final: Tuple[Type[OSError], ...] = (ssl.SSLCertVerificationError,)
+    final: Tuple[Type[OSError], ...] = (ssl.SSLCertVerificationError, Late)
 
-    def __init__(self, address: Address, timeout: Optional[float], context: Optional[ssl.SSLContext]) -> None:
+    def __init__(self, address: Address, timeout: Optional[float], context: Optional[ssl.SSLContext],
+                 deadline: Optional[float] = None) -> None:
         self.where = address.url
-        self._words = address, timeout, context
+        self._words = address, timeout, context, deadline
+        self.limit = Limit(timeout, deadline)
         if address.secure:
             self._connection: http.client.HTTPConnection = http.client.HTTPSConnection(
                 address.host.rstrip('.'), address.port, timeout=timeout, context=context or _trusting())
         else:
             self._connection = http.client.HTTPConnection(address.host, address.port, timeout=timeout)
-        setattr(self._connection, '_create_connection', _connected)     # which connect() calls
+        setattr(self._connection, '_create_connection', functools.partial(_connected, self.limit))     # which connect() calls
         self._room = memoryview(bytearray(PIECE))
         self._begin = self._end = 0
         """Where in the room the bytes are that were read and aren't taken."""
@@ -258,13 +249,14 @@ class Host:
         if not self.carries():
             return None
         wire, stream = self._wire, self._connection.sock
-        timeout = stream.gettimeout()
+        timeout = self.limit.wait()
         wire.socket, wire.timeout = stream.fileno(), -1 if timeout is None else math.ceil(timeout * 1000)
         wire.depth = self.depth
         wire.phase = wire.count = wire.ahead = wire.kept = wire.asked = wire.exchanges = wire.until = wire.begin = wire.end = 0
         self._well = False                               # where a signal handler raises
         stop = run(wire)
         while stop == Stop.INTERRUPTED and not self._aborted:
+            self._check_in_time()
             stop = run(wire)
         if self._aborted:
             self.close()
@@ -279,6 +271,7 @@ class Host:
 
     def _broken(self, stop: int, core: Core) -> Carried:
         """What is left where the connection failed: nothing, where it was kept for too long (as in `_first`)."""
+        self._check_in_time()
         wire = self._wire
         self._ahead, self.shared = wire.ahead > 0, wire.ahead > 0 or wire.count > 1
         late = wire.error == errno.ETIMEDOUT
@@ -299,6 +292,21 @@ class Host:
     def begin(self, call: Optional[threading.Event] = None) -> None:
         self._call, self._aborted = call, False
 
+    def _check_in_time(self) -> None:
+        """Ends the connection where the call takes too long: it may be in the midst of an answer."""
+        try:
+            self.limit.check()
+        except Late:
+            self.close()
+            raise
+
+    def _stream(self) -> socket.socket:
+        """The connection, for a wait of its own."""
+        stream: socket.socket = self._connection.sock
+        if self.limit.until is not None:
+            stream.settimeout(self.limit.wait())
+        return stream
+
     def abort(self, call: threading.Event) -> None:
         with self._closing, contextlib.suppress(OSError):
             if self._call is not call:
@@ -315,6 +323,7 @@ class Host:
         well, self._well = self._well, False
         begun, self._begun = self._begun, False
         self._check_goes_on()
+        self._check_in_time()
         if not well or self._process != os.getpid() or self.sent[:1] not in ([], [request]):
             self.close()                                 # the connection stays a parent's: to close it here sends nothing, of TLS neither
             self._process = os.getpid()
@@ -334,6 +343,7 @@ class Host:
             self._well = CLOSE in request
         except OSError as error:
             if not of_handler(error):
+                self.limit.check()                       # the server isn't to blame for a wait that the call's end cut
                 self._lose(late=isinstance(error, LATE))
             raise
         finally:
@@ -356,12 +366,14 @@ class Host:
             except LATE as error:
                 if not self._ahead or of_handler(error):
                     raise
+                self.limit.check()
                 late = True
             self._lose(late)
             later = []
         self._ahead = self.shared = False
         self.close()
         self._check_goes_on()
+        self.limit.check()
         self._connection.connect()
         self._check_goes_on()
         if self._is_unasked():
@@ -381,7 +393,7 @@ class Host:
         if requests[:count] == self.sent and len(requests) > count:
             self.sent = requests
             self.shared = len(requests) > 1
-            self._connection.sock.sendall(b''.join(requests[count:]))
+            self._stream().sendall(b''.join(requests[count:]))
 
     def _is_kept(self) -> bool:
         """Whether a connection is open on which the request was sent already, or on which nothing came behind the last answer, neither
@@ -421,7 +433,7 @@ class Host:
             self._room[:len(kept)] = kept
             self._begin, self._end = 0, len(kept)
             while self._end < STATUS:
-                count = self._connection.sock.recv_into(self._room[self._end:])
+                count = self._stream().recv_into(self._room[self._end:])
                 if count == 0:
                     break
                 self._end += count
@@ -430,7 +442,7 @@ class Host:
     def _more(self, most: int = PIECE) -> memoryview:
         """The next bytes that came, at most so many; none at the end of the connection."""
         if self._begin == self._end:
-            self._begin, self._end = 0, self._connection.sock.recv_into(self._room)
+            self._begin, self._end = 0, self._stream().recv_into(self._room)
         begin = self._begin
         self._begin = min(self._end, begin + most)
         return self._room[begin:self._begin]

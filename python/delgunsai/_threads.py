@@ -7,7 +7,8 @@ import threading
 import time
 from typing import Callable, List, Optional, Set
 
-from ._sources import Stopped, of_handler
+from ._handlers import of_handler
+from ._sources import Stopped
 
 
 Share = Callable[[threading.Event], Set[str]]

@@ -38,6 +38,56 @@ class Built(unittest.TestCase):
         os.makedirs(crate)
         self.refused(f'missing: {crate}/out/libdelgunsai_c.a: run `rt lib`', DELGUNSAI_CORE=None)
 
+    def test_archives_that_lack_calls(self):
+        """They are told by one line when the package is built, and not at import."""
+        empty = os.path.join(self.place, 'empty.a')
+        subprocess.run(['ar', 'rcs', empty], check=True)
+        for variable, lacks in (('DELGUNSAI_CORE', r'cog_client_begin and \d+ more'), ('DELGUNSAI_HEAP', r'rattle_alloc and \d+ more')):
+            done = self.pip('--target', os.path.join(self.place, 'nowhere'), self.source, **{variable: empty})
+            self.assertNotEqual(done.returncode, 0)
+            self.assertRegex(done.stdout + done.stderr, f'(?m)^ *missing: {lacks}, in .*: name whole archives of this version$')
+        part = os.path.join(self.place, 'part.a')
+        shutil.copy(CORE, part)
+        members = subprocess.run(['ar', 't', part], check=True, capture_output=True, text=True).stdout.split()
+        subprocess.run(['ar', 'x', part, '--output', self.place], check=True)
+        for member in members:
+            subprocess.run(['objcopy', '--redefine-sym', 'cog_client_info=cog_other', os.path.join(self.place, member)], check=True)
+        os.remove(part)
+        subprocess.run(['ar', 'rcs', part, *members], check=True, cwd=self.place)
+        self.refused('missing: cog_client_info, in ', DELGUNSAI_CORE=part)
+
+    def test_version(self):
+        self.assertEqual(self.pip('--target', self.place, self.source).returncode, 0)
+        with open(os.path.join(TOP, 'include/delgunsai.h')) as file:
+            self.assertIn(f'#define DELGUNSAI_VERSION "{delgunsai.__version__}"\n', file.read())
+        self.assertEqual(len(glob.glob(os.path.join(self.place, f'delgunsai-{delgunsai.__version__}.dist-info'))), 1)
+        names = subprocess.run(['nm', '-D', '--defined-only', os.path.join(self.place, 'delgunsai/libdelgunsai.so')], capture_output=True, text=True)
+        self.assertEqual({line.split()[2].split('_')[0] for line in names.stdout.splitlines()}, {'cog', 'delgunsai'})
+
+    def test_wheel(self):
+        """One command makes it. It is used where neither the kit nor a compiler is."""
+        made = subprocess.run([sys.executable, os.path.join(TOP, 'python/build_wheel'), self.place], capture_output=True, text=True,
+                              env={**os.environ, 'DELGUNSAI_CORE': CORE})
+        name = f'delgunsai-{delgunsai.__version__}-py3-none-manylinux_2_17_x86_64.whl'
+        self.assertEqual((made.stdout, made.stderr), (os.path.join(self.place, name) + '\n', ''))
+        place, bare = os.path.join(self.place, 'environment'), {'PATH': self.place, 'HOME': self.place}
+        subprocess.run([sys.executable, '-m', 'venv', '--without-pip', '--system-site-packages', place], check=True)
+        program = os.path.join(place, 'bin/python')
+        done = subprocess.run([program, '-m', 'pip', 'install', '-q', '--no-index', made.stdout.strip()], capture_output=True, text=True, env=bare)
+        self.assertEqual(done.returncode, 0, done.stderr)
+        words = f'import delgunsai; print(delgunsai.__file__); print(delgunsai.open({EXAMPLE!r}).read(x=24, y=30, width=4, height=2).tolist())'
+        done = subprocess.run([program, '-c', words], capture_output=True, text=True, env=bare, cwd=self.place)
+        self.assertEqual(done.stderr, '')
+        file, samples = done.stdout.splitlines()
+        self.assertTrue(file.startswith(place), file)
+        self.assertEqual(samples, '[[216, 221, 226, 231], [217, 222, 227, 232]]')
+        empty = os.path.join(self.place, 'empty.a')
+        subprocess.run(['ar', 'rcs', empty], check=True)
+        made = subprocess.run([sys.executable, os.path.join(TOP, 'python/build_wheel'), self.place], capture_output=True, text=True,
+                              env={**os.environ, 'DELGUNSAI_CORE': empty})
+        self.assertNotEqual(made.returncode, 0)
+        self.assertRegex(made.stderr, r'\Abuild_wheel: missing: cog_client_begin and \d+ more, in .*\n\Z')
+
     def test_paths_of_another_folder(self):
         """pip builds in a folder of its own, where the path that was meant leads elsewhere."""
         self.refused("DELGUNSAI_CORE is 'out/libdelgunsai_c.a': give the whole path", DELGUNSAI_CORE='out/libdelgunsai_c.a')

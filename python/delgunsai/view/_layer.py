@@ -12,9 +12,10 @@ from typing import Any, Callable, Iterator, List, NamedTuple, Optional, Tuple
 import numpy
 from numpy.typing import NDArray
 
-from .._file import File, open as open_url, open_file
+from .._file import File
 from .._ground import Crs, Transform, bounds_of, crs_of, transform_of
 from .._info import Info
+from .._open import open as open_url, open_file
 from .._png import png, stretched
 from .._raster import Replaced, percentiles_of
 

@@ -1,0 +1,55 @@
+"""How a file is opened."""
+from __future__ import annotations
+
+import os
+import re
+import ssl
+from typing import Optional, SupportsIndex, Union
+
+from ._disk import Disk
+from ._file import File
+from ._numbers import number_of, seconds_of
+from ._sources import Address, Host
+
+URL = re.compile(r'[^/]*://|https?:', re.IGNORECASE)
+"""What a URL begins with, and a path doesn't."""
+
+
+def open(place: Union[str, 'os.PathLike[str]'], *, blocks: SupportsIndex = 256, timeout: Optional[float] = 30.0,
+         deadline: Optional[float] = None, context: Optional[ssl.SSLContext] = None) -> File:
+    """Opens a file at a URL of http or https, or of the disk. Nothing is read yet. A text with :// after its first word, or that begins
+    with http: or https:, is a URL. Any other text, and each `os.PathLike`, is a path, as `open_file` takes it.
+
+    `blocks` of 16,384 bytes, 66 to 4,096, are kept of the file, and of packed tiles as many bytes unpacked. The others are of URLs alone.
+    `timeout` is how many seconds each attempt to connect may take (one for each address of the host), each TLS handshake, and each read and
+    write, None for ever. An exchange that brought nothing is tried three times, so `Lost` may take several of them. `deadline` is how many
+    seconds a whole call may take, None for ever. After it the call fails with `Late`, which is a `Lost`. `context` says which certificates
+    are trusted, those of the system without it. Proxies aren't used.
+
+    Fails with `BadUrl` where the URL is outside the rules, and with the `OSError` of the standard `open` where the path can't be opened.
+    Fails with `ValueError` where a number is outside its limits, and with `TypeError` where it is none.
+
+    >>> with open('http://127.0.0.1:8080/a.tif') as f:                              # doctest: +SKIP
+    ...     f.levels
+    [(64, 64), (32, 32), (16, 16)]
+    >>> with open('docs/example.tif') as f:                                         # doctest: +SKIP
+    ...     f.levels
+    [(64, 64), (32, 32), (16, 16)]
+    """
+    count = number_of('blocks', blocks, 66, 4096)
+    wait, most = seconds_of('timeout', timeout), seconds_of('deadline', deadline)
+    if not isinstance(place, str) or not URL.match(place):
+        return open_file(place, blocks=count)
+    address = Address(place)
+    return File(Host(address, wait, context, most), address.netloc, address.name, count)
+
+
+def open_file(path: Union[str, 'os.PathLike[str]'], *, blocks: SupportsIndex = 256) -> File:
+    """A file of the disk. It is read by ranges too, and may be replaced. Where it isn't there, is a folder or may not be read, now or
+    later, the exception is that of the standard `open`.
+
+    >>> with open_file('docs/example.tif') as f:                                    # doctest: +SKIP
+    ...     f.levels
+    [(64, 64), (32, 32), (16, 16)]
+    """
+    return File(Disk(path), b'disk', b'file', number_of('blocks', blocks, 66, 4096))
