@@ -5,4 +5,4 @@ use Rattle.command_lines.proofs.quick.has_option.Given as goal
 -- what is to be said of the words that are left is what is to be said of all
 abbrev pub invariant-loop-word : goal.invariant-loop-word
 invariant-loop-word g l =
-    has_option l.name.now (map g.S.AsStr.text (drop l.word-index l.words)) ≡ has_option l.name.now (map g.S.AsStr.text l.words)
+    has_option l.name (map g.S.AsStr.text (drop l.word-index l.words)) ≡ has_option l.name (map g.S.AsStr.text l.words)
