@@ -11,7 +11,7 @@ returns-clause-went g c =
     let now = c.moment-now.result in (
       now,
       went_or_started (record { catalogue = c.args.server.now.catalogue; added = added_of c.args.additions }) now c.args.serving.now c.turns.new.self
-      c.accept.new.self
-      (subst (λ (s : ServiceState). AllWentOn s now (places_of c.args.serving.now) (places_of c.turns.new.self)) c.new-service.ensures c.turns.ensures.went)
-      c.accept.ensures.newcomers,
+          c.accept.new.self
+          (subst (λ (s : ServiceState). AllWentOn s now (places_of c.args.serving.now) (places_of c.turns.new.self)) c.new-service.ensures c.turns.ensures.went)
+          c.accept.ensures.newcomers,
     )
