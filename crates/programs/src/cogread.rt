@@ -20,6 +20,7 @@ use disk_files::replace_file;
 use range_cache::{MAX_CAPACITY, MIN_CAPACITY};
 use read_command::{Asked, Exchanges, ReadError, Text, Verbosity};
 use read_progress::{Noted, NotedNet, RefusalSentence};
+use std::alloc::{AllocError, Global};
 use std::io;
 use std::net::{Net, TcpStream};
 use std::rt::{Clock, Files};
@@ -229,6 +230,21 @@ fn place_of<'a, R: AllocGlobal>(rt: &R, url: &'a str) -> Result<FileUrl<'a>, Exi
     }
 }
 
+/// Returns the words that a URL stands for: a server and a name, and `describe` before them where it is alone.
+fn words_of_place<'a>(
+    alloc: Global,
+    place: &'a FileUrl<'a>,
+    is_alone: bool,
+) -> Result<Vec<&'a str>, AllocError> {
+    let mut words = Vec::new(alloc);
+    if is_alone {
+        words.push("describe")?;
+    }
+    words.push(place.server.as_str())?;
+    words.push(place.name)?;
+    Ok(words)
+}
+
 /// Runs the program on words of which one is a URL, which stands for a server and a name, and for `describe` where it is alone. Its
 /// connection is kept, and it looks ahead.
 fn run_url<R>(rt: &R, words: &[&str], index: usize, is_alone: bool) -> Result<(), Exit>
@@ -237,9 +253,8 @@ where
     requires { index < length words.now }
 {
     let place = place_of(rt, words[index])?;
-    let instead = ["describe", place.server.as_str(), place.name];
-    let skipped = if is_alone { 0 } else { 1 };
-    let named = words_instead(rt.alloc(), words, index, &instead[skipped..])?;
+    let instead = words_of_place(rt.alloc(), &place, is_alone)?;
+    let named = words_instead(rt.alloc(), words, index, &instead)?;
     let mut line = read_line(rt.alloc(), &named)?;
     line.keep = !line.close;
     line.ahead = line.ahead.or(Some(AHEAD_OF_A_URL));

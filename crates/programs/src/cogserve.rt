@@ -91,7 +91,7 @@ pub(crate) fn ended<R: Clock + Eprint + AllocGlobal, T: Drop>(
     log: &AccessLog<'_, R>,
     outcome: Result<T, ServeFilesError<'_>>,
 ) -> Result<T, Exit>
-    ensures { IfOk outcome (λ value. result ≡ Ok value) }
+    ensures { IfOk outcome.entry (λ value. result ≡ Ok value) }
 {
     match outcome {
         Ok(value) => Ok(value),
