@@ -32,19 +32,18 @@ const ROWS: [Row; 12] = [
     (ALL, "OPTIONS /a HTTP/1.1\r\nAccess-Control-Request-Method: GET\r\n\r\n", 400, "HTTP/1.1 400 Bad Request\r\nContent-Length: 0\r\nAccess-Control-Allow-Origin: *\r\nAccess-Control-Expose-Headers: ETag, Content-Range, Content-Length, Accept-Ranges\r\nConnection: close\r\n\r\n"),
 ];
 
-/// Expects the answer of one row.
-fn expect_row(
+/// Expects an answer of this status and text.
+fn expect_answer(
     rt: &(impl Abort + AllocGlobal),
     server: &Server,
-    (origin, request, status, want): Row,
+    additions: Additions<'_>,
+    request: &[u8],
+    (status, want): (u16, &str),
 ) -> Result<(), Fail> {
-    let additions = Additions {
-        origin: origin.map(|origin| origin.as_bytes()),
-        announces_last: false,
-    };
+    let service = Service::new(server, additions);
     let mut connection = Connection::new(rt.alloc());
-    give(&mut connection, request.as_bytes())?;
-    let answered = connection.go_on_by(&Service::new(server, additions))?;
+    give(&mut connection, request)?;
+    let answered = connection.go_on_by(&service)?;
     expect_eq!(rt; answered, Some(status));
     let mut text = Vec::new(rt.alloc());
     take(&mut connection, usize::MAX, &mut text)?;
@@ -52,11 +51,24 @@ fn expect_row(
     Ok(())
 }
 
+/// What is added for an origin, if one is allowed.
+fn additions_for(origin: Option<&str>) -> Additions<'_> {
+    let origin = match origin {
+        Some(origin) => Some(origin.as_bytes()),
+        None => None,
+    };
+    Additions {
+        origin,
+        announces_last: false,
+    }
+}
+
 #[test]
 fn adds_the_fields_of_an_origin(rt: HostRuntime) -> Result<(), Fail> {
     let server = server_of_two(rt.alloc())?;
-    for row in ROWS {
-        expect_row(&rt, &server, row)?;
+    for (origin, request, status, want) in ROWS {
+        let additions = additions_for(origin);
+        expect_answer(&rt, &server, additions, request.as_bytes(), (status, want))?;
     }
     Ok(())
 }
