@@ -126,12 +126,10 @@ fn tells_the_name_of_a_projected_system(rt: HostRuntime) -> Result<(), Fail> {
         let mut keys = texts(alloc, named)?;
         keys.append(&mut numbers(alloc, &[(3072, number)])?)?;
         let info = info_of(alloc, keys)?;
-        let system = CoordinateSystem::of(alloc, &info)?;
-        let name = match &system {
-            Some(system) => system.name.as_deref(),
-            None => None,
+        let Some(system) = CoordinateSystem::of(alloc, &info)? else {
+            return Err(Fail::new("no system"));
         };
-        assert_eq!(rt; name, want);
+        assert_eq!(rt; system.name.as_deref(), want);
     }
     Ok(())
 }
