@@ -156,12 +156,12 @@ export class Panel {
     if (this.canvas.height !== height) this.canvas.height = height;
   }
 
-  // Draws what the guide shows at this view, and asks for what is missing.
+  // Draws what the guide shows at this view, and asks for what is missing. Without a guide the first file isn't read yet.
   draw(guide, view) {
     this.resize();
     this.context.fillStyle = BACK;
     this.context.fillRect(0, 0, this.canvas.width, this.canvas.height);
-    if (this.info === null) return this.show('reading', [], []);
+    if (this.info === null || !guide) return this.show('reading', [], []);
     this.view = viewIn(this.info, guide, view);
     const level = levelOf(this.view.zoom), keys = this.visible(level);
     const ready = keys.filter(key => this.tiles.has(key));
