@@ -69,8 +69,7 @@ pub struct Serving {
     /// Whether the system barred a connection, since one was last accepted or none waited.
     is_barred: bool,
     accepted: u32,
-    /// The first moment at which a connection that keeps bytes of a replaced file will have made no progress for the patience. `None` where
-    /// no connection kept such bytes when that was last looked for.
+    /// The first moment at which a connection that keeps a replaced file's bytes is to be closed, as it was last looked for.
     frees_at: Option<u64>,
     /// How many publications there were then.
     publications: u32,
@@ -171,8 +170,8 @@ impl Serving {
     }
 
     /// Gives each connection that is ready its turn at moment `now`, and closes those whose drain ends. Each answer is logged in `log`.
-    /// While another connection may wait for a slot, or one may keep bytes of a replaced file, a socket that is to be tried is tried. One
-    /// that keeps such bytes without progress for the patience is closed.
+    /// Closes those, too, that keep a replaced file's bytes without progress for the patience. Before a connection loses its slot, and
+    /// while another one may wait, sockets are tried.
     #[tactic(auto, using(crate::proofs::PlacesLemmas::taking_turns))]
     pub fn turns<A: AnswerLog>(&mut self, service: &Service<'_>, now: u64, log: &mut A)
         ensures nobody { NobodyComes self.old self.new }
