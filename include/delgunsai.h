@@ -67,7 +67,8 @@ enum {
     COG_MEMORY = -4,       /* no memory was left */
     COG_NO_CLIENT = -5,    /* the handle has no client */
     COG_NO_REPORT = -6,    /* no report stands */
-    COG_OTHER_REPORT = -7  /* the report is of another kind */
+    COG_OTHER_REPORT = -7, /* the report is of another kind */
+    COG_ORDER = -8         /* the call doesn't fit what is under way */
 };
 
 /* Room for any request, and for any tag of a file. */
@@ -223,6 +224,72 @@ enum { COG_SAME = 1, COG_OTHER = 2, COG_UNKNOWN = 3 /* for this reason: 1 to 6 o
 /* cog_client_current: says what the answer to a check, or a front of it, tells of the tag. It changes nothing of the client. Gives 0 or
  * COG_NO_CLIENT. */
 int32_t cog_client_current(struct cog_client *client, const uint8_t *answer, size_t length, struct cog_said *said);
+
+/* ---- A driver: the library says what to do, and the caller moves bytes.
+ *
+ * These calls keep all rules of a connection: which request is sent and when, which answer is taken for it, where an answer ends, when the
+ * connection goes on after it, and what is sent once more. A driver has one connection at a time, plain or with TLS. It calls
+ * delgunsai_client_go_on with the bytes that it read and that weren't taken so far, and does what the step says, until it is
+ * DELGUNSAI_OVER. The client's requests are to be such that connections are kept: call cog_client_keep_open first. example.c is such
+ * a driver. Who calls these doesn't call cog_client_request, _begin, _feed and _end. */
+
+/* What a driver is to do next. */
+enum {
+    DELGUNSAI_CONNECT = 1,   /* end the connection, if there is one, make a new one, and call delgunsai_client_connected */
+    DELGUNSAI_WRITE = 2,     /* write what delgunsai_client_waiting lays, and call delgunsai_client_wrote */
+    DELGUNSAI_READ = 3,      /* read bytes, at least one, and hand them on */
+    DELGUNSAI_LOOK = 4,      /* see whether bytes are there without waiting for them: hand them on, or call delgunsai_client_silent */
+    DELGUNSAI_EXCHANGED = 5, /* an exchange is over: `said`, `status` and `alone` say what it brought; go on */
+    DELGUNSAI_CHECKED = 6,   /* the check is over: `said` is as cog_client_current lays it */
+    DELGUNSAI_OVER = 7,      /* a report stands, there is no query, or no exchange is left: call cog_client_report */
+    DELGUNSAI_MORE = 8       /* go on */
+};
+
+/* How a connection was lost. */
+enum {
+    DELGUNSAI_ENDED = 1,     /* the other end ended it */
+    DELGUNSAI_FAILED = 2,    /* it failed, or couldn't be made */
+    DELGUNSAI_LATE = 3       /* it brought nothing in time */
+};
+
+/* A step. */
+struct delgunsai_step {
+    uint64_t taken;          /* how many of the bytes were taken, from the first on; the others are handed on with the next call */
+    uint32_t kind;           /* what to do next */
+    struct cog_said said;    /* after an exchange, what the answer did, as cog_client_end lays it; after a check, what it says */
+    uint32_t status;         /* after an exchange, the status code of the answer; 0 where no whole head came */
+    uint32_t alone;          /* after an exchange, 1 where no other request was sent with its request */
+};
+
+/* delgunsai_client_go_on: takes bytes that came, and says what to do next. `length` is 0 where nothing came since the last call. Bytes that
+ * nothing asked for end the connection, and are taken. Gives 0, COG_MEMORY or COG_NO_CLIENT. After COG_MEMORY the exchange is over, and
+ * so is its connection; what was taken of its answer stays. */
+int32_t delgunsai_client_go_on(struct cog_client *client, const uint8_t *bytes, size_t length, struct delgunsai_step *step);
+
+/* delgunsai_client_waiting: lays the first of the bytes that are to be written into the room, as many as it has room for. Gives how many
+ * there are in all, or COG_NO_CLIENT. */
+int64_t delgunsai_client_waiting(struct cog_client *client, uint8_t *room, size_t length);
+
+/* delgunsai_client_wrote: notes that the first `count` bytes that waited were written. Gives 0, COG_ORDER or COG_NO_CLIENT. */
+int32_t delgunsai_client_wrote(struct cog_client *client, size_t count);
+
+/* delgunsai_client_connected: notes that a new connection is there. Gives 0, COG_ORDER, COG_MEMORY or COG_NO_CLIENT. */
+int32_t delgunsai_client_connected(struct cog_client *client);
+
+/* delgunsai_client_silent: notes that nothing came on the connection before the request is written. Gives 0 or COG_NO_CLIENT. */
+int32_t delgunsai_client_silent(struct cog_client *client);
+
+/* delgunsai_client_gone: notes that the connection is gone, and how, or couldn't be made. Bytes that weren't taken are dropped. The step is
+ * DELGUNSAI_MORE, or DELGUNSAI_EXCHANGED where the exchange is over by it. Gives 0, COG_MEMORY or COG_NO_CLIENT. */
+int32_t delgunsai_client_gone(struct cog_client *client, uint32_t how, struct delgunsai_step *step);
+
+/* delgunsai_client_exchanges: lets each query from here on take at most `exchanges` exchanges, 65,536 without this call. What is under way
+ * is dropped with its connection, as by cog_client_open_.. and cog_client_forget. Gives 0 or COG_NO_CLIENT. */
+int32_t delgunsai_client_exchanges(struct cog_client *client, uint32_t exchanges);
+
+/* delgunsai_client_ask_same: begins the check whether the file still is the one that was read last. The next steps are of the check, up to
+ * DELGUNSAI_CHECKED. It has a connection of its own. Gives 1; 0, where nothing was read yet; COG_MEMORY or COG_NO_CLIENT. */
+int32_t delgunsai_client_ask_same(struct cog_client *client);
 
 #ifdef __cplusplus
 }

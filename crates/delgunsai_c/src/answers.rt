@@ -42,7 +42,7 @@ pub extern "C" fn cog_client_begin(alloc: Global, client: &mut Handle) -> i32
     let Some(mut held) = client.take(alloc) else {
         return Failure::NoClient.code();
     };
-    held.begin();
+    held.client.begin();
     client.put(held);
     0
 }
@@ -55,7 +55,7 @@ pub extern "C" fn cog_client_feed(alloc: Global, client: &mut Handle, piece: &[u
     let Some(mut held) = client.take(alloc) else {
         return Failure::NoClient.code();
     };
-    let told = feed(&mut held, piece);
+    let told = feed(&mut held.client, piece);
     client.put(held);
     told
 }
@@ -69,7 +69,7 @@ pub extern "C" fn cog_client_end(alloc: Global, client: &mut Handle, said: &mut 
     let Some(mut held) = client.take(alloc) else {
         return Failure::NoClient.code();
     };
-    let told = end(&mut held, said);
+    let told = end(&mut held.client, said);
     client.put(held);
     told
 }
@@ -88,7 +88,7 @@ pub extern "C" fn cog_client_current(
     let Some(held) = client.take(alloc) else {
         return Failure::NoClient.code();
     };
-    let current = held.current(answer);
+    let current = held.client.current(answer);
     *said = Said::of_current(current);
     client.put(held);
     0

@@ -1,10 +1,10 @@
 //! A place in the heap, as C holds it.
 ghost use Rattle.std.specs.Prelude.{◌≡◌, Option, None, Some, IsSome};
-ghost use Rattle.cog_client.specs.Client.{ClientState};
+ghost use Rattle.delgunsai_c.specs.declared.held.Held.{Held};
 ghost use Rattle.delgunsai_c.specs.Owned.{inside_coded, owned};
 
 use crate::parts::RawParts;
-use cog_client::Client;
+use crate::held::Held;
 use std::alloc::Global;
 use std::marker::Model;
 use std::ptr::null_mut;
@@ -15,7 +15,7 @@ use std::ptr::null_mut;
 pub struct ClientPointer {
     at: *mut u8,
     alloc: Global,
-    pub ghost inside: { Option ClientState } by { inside_coded },
+    pub ghost inside: { Option Held } by { inside_coded },
 }
 
 impl Model for ClientPointer {
@@ -34,7 +34,7 @@ impl ClientPointer {
     }
 
     /// The place of a client.
-    pub fn of_parts(parts: RawParts<Client, Global>) -> ClientPointer
+    pub fn of_parts(parts: RawParts<Held, Global>) -> ClientPointer
         ensures { result.inside ≡ Some parts.value }
     {
         let RawParts { ptr, alloc } = parts;
@@ -45,13 +45,13 @@ impl ClientPointer {
     }
 
     /// The client of a place that has one.
-    pub fn into_parts(self) -> RawParts<Client, Global>
+    pub fn into_parts(self) -> RawParts<Held, Global>
         requires { IsSome self.inside }
         ensures { Some result.value ≡ self.inside }
     {
         let ClientPointer { at, alloc } = self;
         RawParts {
-            ptr: at as *mut Client,
+            ptr: at as *mut Held,
             alloc,
         }
     }

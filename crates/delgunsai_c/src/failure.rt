@@ -21,6 +21,8 @@ pub enum Failure {
     NoReport,
     /// The report is of another kind.
     OtherReport,
+    /// The call doesn't fit what is under way.
+    Order,
 }
 
 impl Failure {
@@ -38,6 +40,7 @@ impl Failure {
             Failure::NoClient => -5,
             Failure::NoReport => -6,
             Failure::OtherReport => -7,
+            Failure::Order => -8,
         }
     }
 }

@@ -3,7 +3,7 @@ ghost use Rattle.std.specs.Prelude.{◌≡◌, ◌↔◌, None, Some, IfSome, Is
 
 use crate::client_pointer::ClientPointer;
 use crate::parts::RawParts;
-use cog_client::Client;
+use crate::held::Held;
 use std::alloc::Global;
 
 /// A client in the heap, or none. C makes one of zeros, which has none.
@@ -29,9 +29,9 @@ impl Handle {
     }
 
     /// Takes the client out, which leaves none.
-    pub fn take(&mut self, alloc: Global) -> Option<Box<Client>>
+    pub fn take(&mut self, alloc: Global) -> Option<Box<Held>>
         ensures left { client_of self.new ≡ None }
-        ensures some { IfSome result (λ b. client_of self.old ≡ Some b.value) }
+        ensures some { IfSome result (λ b. client_of self.old ≡ Some b.value.client) }
         ensures none { result ≡ None → client_of self.old ≡ None }
     {
         let old = std::mem::replace(self, Handle::empty(alloc));
@@ -44,8 +44,8 @@ impl Handle {
     }
 
     /// Puts a client in.
-    pub fn put(&mut self, client: Box<Client>)
-        ensures { client_of self.new ≡ Some client.value }
+    pub fn put(&mut self, client: Box<Held>)
+        ensures { client_of self.new ≡ Some client.value.client }
     {
         *self = Handle {
             place: ClientPointer::of_parts(RawParts::of(client)),

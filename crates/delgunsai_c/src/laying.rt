@@ -11,3 +11,10 @@ pub fn lay(text: &[u8], room: &mut [u8]) -> i64
     }
     text.len() as i64
 }
+
+/// Lays as much of the front of a text into a caller's room as there is room for, and says how long it is.
+pub fn lay_front(text: &[u8], room: &mut [u8]) -> usize {
+    let count = text.len().min(room.len());
+    room[..count].copy_from_slice(&text[..count]);
+    count
+}

@@ -3,8 +3,10 @@
 
 mod answers;
 mod client_pointer;
+mod driving;
 mod failure;
 mod handle;
+mod held;
 mod laying;
 mod making;
 mod pairs;

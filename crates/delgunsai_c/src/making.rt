@@ -6,19 +6,34 @@ ghost use Rattle.cog_client.specs.Calls.{Forgets, Starts};
 
 use crate::failure::{Failure, failure_of};
 use crate::handle::Handle;
+use crate::held::Held;
+use client_dialogue::Dialogue;
 use cog_client::Client;
 use std::alloc::Global;
 
-/// A client in the heap, or none for want of memory.
-fn in_heap(alloc: Global, client: Client) -> Option<Box<Client>>
-    ensures { IfSome result (λ b. b.value ≡ client) }
+/// The exchanges that a query may take, unless the caller says another number.
+const EXCHANGES: u32 = 65_536;
+
+/// How many requests are sent early.
+const EARLY: u32 = 8;
+
+/// A client in the heap, or none without memory.
+fn in_heap(alloc: Global, client: Client) -> Option<Box<Held>>
+    ensures { IfSome result (λ b. b.value.client ≡ client) }
 {
-    Box::new(alloc, client).ok()
+    let dialogue = Dialogue::new(alloc, EARLY);
+    let held = Held {
+        client,
+        dialogue,
+        check: None,
+        exchanges: EXCHANGES,
+    };
+    Box::new(alloc, held).ok()
 }
 
 /// A client in the heap.
-fn boxed(alloc: Global, host: &[u8], name: &[u8], blocks: u32) -> Result<Box<Client>, Failure>
-    ensures made { IfOk result (λ b. Starts host.now name.now blocks b.value) }
+fn boxed(alloc: Global, host: &[u8], name: &[u8], blocks: u32) -> Result<Box<Held>, Failure>
+    ensures made { IfOk result (λ b. Starts host.now name.now blocks b.value.client) }
     ensures refused { IfErr result (IsRefusal host.now name.now blocks) }
 {
     match Client::new(alloc, host, name, blocks) {
@@ -59,7 +74,8 @@ pub extern "C" fn cog_client_forget(alloc: Global, client: &mut Handle) -> i32
     let Some(mut held) = client.take(alloc) else {
         return Failure::NoClient.code();
     };
-    held.forget();
+    held.client.forget();
+    held.begin_query();
     client.put(held);
     0
 }

@@ -18,7 +18,8 @@ fn open(alloc: Global, client: &mut Handle, query: Query) -> i32
     let Some(mut held) = client.take(alloc) else {
         return Failure::NoClient.code();
     };
-    held.open(query);
+    held.client.open(query);
+    held.begin_query();
     client.put(held);
     0
 }

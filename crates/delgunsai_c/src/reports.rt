@@ -125,7 +125,7 @@ pub extern "C" fn cog_client_report(
     let Some(held) = client.take(alloc) else {
         return Failure::NoClient.code() as i64;
     };
-    let told = report(&held, out, tag);
+    let told = report(&held.client, out, tag);
     client.put(held);
     told
 }
@@ -140,7 +140,7 @@ pub extern "C" fn cog_client_pixels(alloc: Global, client: &mut Handle, room: &m
     let Some(held) = client.take(alloc) else {
         return Failure::NoClient.code() as i64;
     };
-    let told = pixels(&held, room);
+    let told = pixels(&held.client, room);
     client.put(held);
     told
 }
@@ -155,7 +155,7 @@ pub extern "C" fn cog_client_info(alloc: Global, client: &mut Handle, room: &mut
     let Some(held) = client.take(alloc) else {
         return Failure::NoClient.code() as i64;
     };
-    let told = info(alloc, &held, room);
+    let told = info(alloc, &held.client, room);
     client.put(held);
     told
 }

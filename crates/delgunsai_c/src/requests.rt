@@ -53,7 +53,7 @@ pub extern "C" fn cog_client_keep_open(alloc: Global, client: &mut Handle) -> i3
     let Some(mut held) = client.take(alloc) else {
         return Failure::NoClient.code();
     };
-    held.keep_open();
+    held.client.keep_open();
     client.put(held);
     0
 }
@@ -66,7 +66,7 @@ pub extern "C" fn cog_client_look_ahead(alloc: Global, client: &mut Handle, bloc
     let Some(mut held) = client.take(alloc) else {
         return Failure::NoClient.code();
     };
-    held.look_ahead(blocks);
+    held.client.look_ahead(blocks);
     client.put(held);
     0
 }
@@ -80,7 +80,7 @@ pub extern "C" fn cog_client_request(alloc: Global, client: &mut Handle, room: &
     let Some(mut held) = client.take(alloc) else {
         return Failure::NoClient.code() as i64;
     };
-    let told = request(&mut held, room);
+    let told = request(&mut held.client, room);
     client.put(held);
     told
 }
@@ -94,7 +94,7 @@ pub extern "C" fn cog_client_check(alloc: Global, client: &mut Handle, room: &mu
     let Some(held) = client.take(alloc) else {
         return Failure::NoClient.code() as i64;
     };
-    let told = check(&held, room);
+    let told = check(&held.client, room);
     client.put(held);
     told
 }
@@ -113,7 +113,7 @@ pub extern "C" fn cog_client_later(
     let Some(held) = client.take(alloc) else {
         return Failure::NoClient.code() as i64;
     };
-    let told = later(&held, index, room);
+    let told = later(&held.client, index, room);
     client.put(held);
     told
 }

@@ -1,0 +1,26 @@
+-- What a check does, and what it says.
+use Rattle.std.specs.Prelude.{◌≡◌, ◌<◌, ◌⊎◌, ℕ, Bool, false, true, List, [], ◌∷◌, length, Option, None, Some, IsSome}
+use Rattle.client_connection.specs.Status.{Status, Takes, over}
+use Rattle.client_connection.specs.declared.parts.Part.{Part}
+use Rattle.cog_client.specs.Check.{IsCurrent}
+use Rattle.cog_client.specs.Client.{ClientState, tag_of}
+use Rattle.client_dialogue.specs.declared.check.Check.{Check}
+use Rattle.client_dialogue.specs.declared.check.CheckStep.{CheckStep}
+use Rattle.client_dialogue.specs.declared.check.CheckStep.TheVariants.{Checked, Connect, More, Read, Write}
+
+-- The request waits for a connection.
+abbrev pub IsCheckOf : Option (List ℕ) → Option Status → Type 0
+IsCheckOf None check = check ≡ None
+IsCheckOf (Some text) check = check ≡ Some (over (text ∷ []))
+
+-- nothing more comes: the head is whole, or the connection is over
+abbrev pub IsAnswered : Status → Type 0
+IsAnswered s = (s.out ≡ []) ⊎ IsSome s.left
+
+-- What is to be done next is said, and nothing changes; or bytes are taken. What came of the head says what the check says.
+abbrev pub ChecksBy : ClientState → CheckStep → List ℕ → Status → Status → Type 0
+ChecksBy c Connect bytes old new = (new ≡ old) × (bytes ≡ []) × (old.is_open ≡ false) × (0 < length old.out)
+ChecksBy c Write bytes old new = (new ≡ old) × (bytes ≡ []) × (old.is_open ≡ true) × (0 < length old.waits)
+ChecksBy c Read bytes old new = (new ≡ old) × (bytes ≡ []) × (old.is_open ≡ true) × (old.waits ≡ [])
+ChecksBy c More bytes old new = (part : Part) × Takes part bytes old new
+ChecksBy c (Checked current) bytes old new = (new ≡ old) × (bytes ≡ []) × IsAnswered old × IsCurrent (tag_of c) old.head current

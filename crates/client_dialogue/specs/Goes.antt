@@ -1,0 +1,68 @@
+-- What a call of a dialogue does: whatever happened before, something more happened after it.
+use Rattle.std.specs.Prelude.{◌≡◌, ◌⊎◌, ◌<◌, ℕ, Bool, true, false, List, [], ◌∷◌, ◌++◌, length, Option, Some, None}
+use Rattle.client_connection.specs.Run.{Event}
+use Rattle.client_connection.specs.Run.Event.{Asked, SentEarly, Opened, Wrote, Came, Finished, Gone, Ended}
+use Rattle.client_connection.specs.Status.{Status}
+use Rattle.cog_client.specs.declared.delivered.Delivered.{Delivered}
+use Rattle.cog_client.specs.Calls.{IsIdle}
+use Rattle.cog_client.specs.Client.{ClientState}
+use Rattle.client_dialogue.specs.History.{Exchange, History, IsHistory, Round, Talk}
+use Rattle.client_dialogue.specs.History.Round.{LetGo, Made, Rested, Stopped, Unasked}
+use Rattle.client_dialogue.specs.declared.step.Exchanged.{Exchanged}
+use Rattle.client_dialogue.specs.declared.step.Step.{Step}
+use Rattle.client_dialogue.specs.declared.step.Step.TheVariants.{Connect, Exchanged as AnExchange, Look, More, Over, Read, Write}
+
+-- the bytes that came by events
+abbrev pub came_by : List Event → List ℕ
+came_by [] = []
+came_by (Came part bytes after ∷ es) = bytes ++ came_by es
+came_by (e ∷ es) = came_by es
+
+-- These bytes came and were taken; or they were dropped with their connection.
+abbrev pub AreTaken : List ℕ → List Event → Status → Type 0
+AreTaken bytes es s = (came_by es ≡ bytes) ⊎ ((came_by es ≡ []) × (s.is_open ≡ false))
+
+-- An exchange was made that did this to the client.
+abbrev pub MakesOne : Delivered → List Round → List Round → Type 0
+MakesOne what before after = (e : Exchange) × (e.what ≡ what) × (after ≡ Made e ∷ before)
+
+-- No round ended, or one in which there was no request.
+abbrev pub MakesNone : List Round → List Round → Type 0
+MakesNone before after = (after ≡ before) ⊎ (after ≡ Rested ∷ before)
+
+-- No round ended, or one in which memory was wanting.
+abbrev pub Fails : List Round → List Round → Type 0
+Fails before after = (after ≡ before) ⊎ (after ≡ Unasked ∷ before)
+    ⊎ ((request text : List ℕ) × ((after ≡ Stopped request text ∷ before) ⊎ (after ≡ LetGo request text ∷ before)))
+
+-- a history goes on by these bytes
+pub record Continues (rounds : List Round → List Round → Type 0) (bytes : List ℕ) (h k : History) (s : Status) : Type 0 where
+  pub more : List Event
+  pub events : k.events ≡ h.events ++ more
+  pub taken : AreTaken bytes more s
+  pub made : rounds h.rounds k.rounds
+
+-- Whatever happened before, it goes on so.
+abbrev pub Goes : (List Round → List Round → Type 0) → List ℕ → Talk → ClientState → Talk → ClientState → Type 0
+Goes rounds bytes t c u d = (start : ClientState) (allowed : ℕ) (h : History) → IsHistory start allowed h t c
+    → (k : History) × Continues rounds bytes h k u.status × IsHistory start allowed k u d
+
+-- the rounds that end with a step
+abbrev pub rounds_of : Step → List Round → List Round → Type 0
+rounds_of (AnExchange e) before after = MakesOne e.delivered before after
+rounds_of step before after = MakesNone before after
+
+-- what holds where a driver is to do this
+abbrev pub Says : Step → Talk → ClientState → Type 0
+Says Connect t c = (t.asked ≡ true) × (t.status.is_open ≡ false)
+Says Look t c = (t.asked ≡ true) × (t.status.is_open ≡ true)
+Says Write t c = (t.asked ≡ true) × (t.status.is_open ≡ true) × (0 < length t.status.waits)
+Says Read t c = (t.asked ≡ true) × (t.status.is_open ≡ true) × (t.status.waits ≡ [])
+Says More t c = t.asked ≡ true
+Says (AnExchange e) t c = t.asked ≡ false
+Says Over t c = (t.asked ≡ false) × ((t.exchanges ≡ 0) ⊎ IsIdle c)
+
+-- Between exchanges a query of any client may begin, of which so many exchanges are allowed.
+abbrev pub BeginsAnew : ℕ → Talk → Talk → Type 0
+BeginsAnew exchanges t u = (start : ClientState) (allowed : ℕ) (h : History) (c d : ClientState) → IsHistory start allowed h t c
+    → (k : History) × ((more : List Event) × (k.events ≡ h.events ++ more)) × (k.rounds ≡ []) × IsHistory d exchanges k u d

@@ -1,0 +1,4 @@
+pub mod History
+pub mod Checking
+pub mod Goes
+pub mod Truth
