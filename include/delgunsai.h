@@ -257,7 +257,7 @@ struct delgunsai_step {
     uint64_t taken;          /* how many of the bytes were taken, from the first on; the others are handed on with the next call */
     uint32_t kind;           /* what to do next */
     struct cog_said said;    /* after an exchange, what the answer did, as cog_client_end lays it; after a check, what it says */
-    uint32_t status;         /* after an exchange, the status code of the answer; 0 where no whole head came */
+    uint32_t status;         /* after an exchange or a check, the status code of the answer; 0 where no whole head came */
     uint32_t alone;          /* after an exchange, 1 where no other request was sent with its request */
 };
 

@@ -22,6 +22,10 @@ came_by (e ∷ es) = came_by es
 abbrev pub AreTaken : List ℕ → List Event → Status → Type 0
 AreTaken bytes es s = (came_by es ≡ bytes) ⊎ ((came_by es ≡ []) × (s.is_open ≡ false))
 
+-- No round ended.
+abbrev pub Stays : List Round → List Round → Type 0
+Stays before after = after ≡ before
+
 -- An exchange was made that did this to the client.
 abbrev pub MakesOne : Delivered → List Round → List Round → Type 0
 MakesOne what before after = (e : Exchange) × (e.what ≡ what) × (after ≡ Made e ∷ before)

@@ -99,17 +99,17 @@ fed_of (Some left) front = front
 
 -- Between exchanges the client is as the last one left it. In one it was asked for the request, whose answer comes next, and was fed
 -- what came of that answer.
-abbrev pub IsUnder : Bool → History → Status → ClientState → Type 0
-IsUnder false h s c = (c ≡ h.last) × (s.left ≡ None)
-IsUnder true h s c =
-    (asking : ClientState) × RequestsKeeping h.last (Some h.request) asking × Fed asking (fed_of s.left (past_of h).front) c
-    × ((early : List (List ℕ)) × (s.out ≡ h.request ∷ early))
+abbrev pub IsUnder : Bool → ClientState → List ℕ → List ℕ → Status → ClientState → Type 0
+IsUnder false last request front s c = (c ≡ last) × (s.left ≡ None)
+IsUnder true last request front s c =
+    (asking : ClientState) × RequestsKeeping last (Some request) asking × Fed asking (fed_of s.left front) c
+    × ((early : List (List ℕ)) × (s.out ≡ request ∷ early))
 
 -- So a dialogue and a client came about, from a client as it was when the query began, of which at most so many exchanges were allowed.
 pub record IsHistory (start : ClientState) (allowed : ℕ) (h : History) (t : Talk) (c : ClientState) : Type 0 where
   pub can : CanRun h.events none_yet
   pub status : (past_of h).status ≡ t.status
   pub rounds : AreRounds h.rounds start h.last
-  pub under : IsUnder t.asked h t.status c
+  pub under : IsUnder t.asked h.last h.request (past_of h).front t.status c
   pub own : AreOwn h.rounds (connections_of (past_of h))
   pub few : begun h.rounds + (t.exchanges + (if t.asked then 1 else 0)) ≡ allowed

@@ -1,4 +1,5 @@
 pub mod History
+pub mod Inside
 pub mod Checking
 pub mod Goes
 pub mod Truth

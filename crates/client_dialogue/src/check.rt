@@ -4,6 +4,7 @@ ghost use Rattle.client_connection.specs.Status.{after_gone, after_open, after_w
 ghost use Rattle.cog_client.specs.Check.{check_of};
 ghost use Rattle.client_dialogue.specs.Checking.{ChecksBy, IsCheckOf};
 
+use crate::dialogue::status_of;
 use client_connection::ClientConnection;
 use cog_client::{Client, Current};
 use extents::Memory;
@@ -73,6 +74,11 @@ impl Check {
         ensures { result.now ≡ self.now.waits }
     {
         self.connection.waiting()
+    }
+
+    /// Returns the status code of the answer, or 0 where no whole head came.
+    pub fn status(&self) -> u16 {
+        status_of(self.connection.head())
     }
 
     /// Notes that the first `count` bytes that waited were written.

@@ -1,15 +1,17 @@
 //! The exchanges of a client, one after another.
-ghost use Rattle.std.specs.Prelude.{◌≡◌, ◌<◌, ◌≤◌, ℕ, [], false, true, None, Some, IfOk, OnErr, OnOk, length, take};
-ghost use Rattle.http_fields.specs.declared.limits.TheConstants.{HEAD_LIMIT};
+ghost use Rattle.std.specs.Prelude.{◌≡◌, ◌≤◌, ℕ, [], false, true, IfOk, OnErr, OnOk, length, take};
 ghost use Rattle.client_connection.specs.Status.{over};
-ghost use Rattle.client_dialogue.specs.Goes.{BeginsAnew, Fails, Goes, MakesNone, MakesOne, Says, rounds_of};
+ghost use Rattle.client_dialogue.specs.Goes.{BeginsAnew, Fails, Goes, MakesNone, Says, rounds_of};
 
-use crate::step::{Exchanged, Loss, Progress, Step};
-use crate::useful::useful_length;
-use client_connection::{ClientConnection, Part, Turn};
-use cog_client::{Client, Delivered};
+mod answering;
+mod asking;
+
+pub(crate) use answering::status_of;
+
+use crate::step::{Loss, Progress, Step};
+use client_connection::ClientConnection;
+use cog_client::Client;
 use extents::Memory;
-use http_range::read_frame;
 use std::alloc::Global;
 use std::marker::Model;
 
@@ -18,15 +20,6 @@ const MOST_EARLY: u32 = 8;
 
 /// After how many losses in a row, of connections on which requests were sent early, none is sent early any more.
 const MOST_LOSSES: u8 = 3;
-
-/// Returns whether an answer was used: it brought blocks, or the client reads another revision from now on.
-fn is_used(delivered: Delivered) -> bool {
-    match delivered {
-        Delivered::Took(blocks) => blocks > 0,
-        Delivered::Restarted => true,
-        Delivered::Ignored(_) => false,
-    }
-}
 
 /// The exchanges of one client, over one connection after another.
 #[derive(Drop)]
@@ -140,14 +133,18 @@ impl Dialogue {
         self.looks = false;
     }
 
-    /// Notes that a new connection is there. Without memory it is given up, and the exchange is over.
+    /// Notes that a new connection is there. Nothing changes where one was. Without memory it is given up, and the exchange is over.
     pub fn connected(&mut self, client: &Client) -> Result<(), Memory>
-        requires busy { self.old.asked ≡ true }
-        requires shut { self.old.status.is_open ≡ false }
+        requires { self.old.asked ≡ true }
         ensures ok { OnOk result (Goes MakesNone [] self.old client.now self.new client.now) }
         ensures err { OnErr result (Goes Fails [] self.old client.now self.new client.now) }
     {
+        if self.connection.is_open() {
+            return Ok(());
+        }
         self.looks = true;
+        self.is_early = false;
+        self.is_shared = false;
         if self.connection.opened().is_err() {
             self.asked = false;
             return Err(Memory);
@@ -225,190 +222,5 @@ impl Dialogue {
         if how == Loss::Late || self.losses >= MOST_LOSSES {
             self.depth = 0;
         }
-    }
-
-    /// Asks the client for its next request.
-    fn ask(&mut self, client: &mut Client) -> Result<Step, Memory>
-        requires { self.old.asked ≡ false }
-        ensures goes { IfOk result (λ step. Goes (rounds_of step) [] self.old client.old self.new client.new) }
-        ensures says { IfOk result (λ step. Says step self.new client.new) }
-        ensures err { OnErr result (Goes Fails [] self.old client.old self.new client.new) }
-    {
-        if self.exchanges == 0 {
-            return Ok(Step::Over);
-        }
-        match client.request()? {
-            None => Ok(Step::Over),
-            Some(text) => self.send(client, &text),
-        }
-    }
-
-    /// Sends a request.
-    fn send(&mut self, client: &Client, text: &[u8]) -> Result<Step, Memory> {
-        self.exchanges -= 1;
-        let turn = self.connection.ask(text)?;
-        self.asked = true;
-        self.looks = turn == Turn::Sends;
-        self.is_early = turn == Turn::Sent;
-        self.is_shared = self.is_early;
-        self.status = 0;
-        self.send_early(client)?;
-        Ok(Step::More)
-    }
-
-    /// Sends those of the client's next requests early that weren't sent so far.
-    fn send_early(&mut self, client: &Client) -> Result<(), Memory> {
-        let Ok(requests) = client.early_requests(self.depth.min(self.exchanges)) else {
-            return Ok(());
-        };
-        for request in self.connection.unsent(&requests) {
-            if self.connection.is_open() {
-                self.add_early(request)?;
-            }
-        }
-        Ok(())
-    }
-
-    /// Sends a request early.
-    fn add_early(&mut self, request: &[u8]) -> Result<(), Memory> {
-        self.is_shared = true;
-        if self.connection.send_early(request).is_err() {
-            self.asked = false;
-            return Err(Memory);
-        }
-        Ok(())
-    }
-
-    /// Takes what came before the request was written.
-    fn look(&mut self, client: &mut Client, bytes: &[u8]) -> Result<Progress, Memory> {
-        if bytes.is_empty() {
-            return Ok(Progress {
-                count: 0,
-                step: Step::Look,
-            });
-        }
-        let step = self.lose(client)?;
-        Ok(Progress {
-            count: bytes.len(),
-            step,
-        })
-    }
-
-    /// Takes bytes of the answer.
-    fn take(&mut self, client: &mut Client, bytes: &[u8]) -> Result<Progress, Memory> {
-        let most = self.most(bytes);
-        let Ok(taken) = self.connection.came(&bytes[..most]) else {
-            self.asked = false;
-            return Err(Memory);
-        };
-        let step = match taken.part {
-            Part::Head | Part::Interim | Part::Again => Step::More,
-            Part::Begun => self.begin_body(client)?,
-            Part::Body => self.feed_body(client, &bytes[..taken.count])?,
-            Part::Refused | Part::Stray => self.conclude_head(client)?,
-        };
-        Ok(Progress {
-            count: taken.count,
-            step,
-        })
-    }
-
-    /// Returns how many of these bytes may be read of the answer that is under way.
-    fn most(&self, bytes: &[u8]) -> usize
-        ensures some { 0 < length bytes.now → 0 < result }
-        ensures few { result ≤ length bytes.now }
-    {
-        match self.connection.left() {
-            None => bytes.len(),
-            Some(_) => self.useful.max(1).min(bytes.len() as u64) as usize,
-        }
-    }
-
-    /// Returns whether all that is read of the answer came.
-    fn is_read(&self) -> bool {
-        match self.connection.left() {
-            None => false,
-            Some(left) => left == 0 || self.useful == 0,
-        }
-    }
-
-    /// Feeds the head of an answer, which is whole.
-    fn begin_body(&mut self, client: &mut Client) -> Result<Step, Memory> {
-        let head = self.connection.head();
-        self.status = read_frame(head).map_or(0, |frame| frame.status);
-        self.useful = useful_length(head, client.asked());
-        self.feed_head(client)?;
-        Ok(Step::More)
-    }
-
-    /// Feeds what came of the head.
-    fn feed_head(&mut self, client: &mut Client) -> Result<(), Memory> {
-        if client.feed(self.connection.head()).is_err() {
-            self.asked = false;
-            self.connection.end();
-            return Err(Memory);
-        }
-        Ok(())
-    }
-
-    /// Feeds bytes of the body.
-    fn feed_body(&mut self, client: &mut Client, bytes: &[u8]) -> Result<Step, Memory> {
-        self.useful = self.useful.saturating_sub(bytes.len() as u64);
-        if client.feed(bytes).is_err() {
-            self.asked = false;
-            self.connection.end();
-            return Err(Memory);
-        }
-        Ok(Step::More)
-    }
-
-    /// Ends an exchange of which as much was read as is to be. The connection goes on after a whole answer that was used.
-    fn finish(&mut self, client: &mut Client) -> Result<Step, Memory> {
-        let is_whole = self.connection.left() == Some(0);
-        let ended = self.conclude(client);
-        match ended {
-            Ok(exchanged) if is_whole && is_used(exchanged.delivered) => {
-                self.connection.finish();
-                if self.is_early {
-                    self.losses = 0;
-                }
-            }
-            _ => self.connection.end(),
-        }
-        Ok(Step::Exchanged(ended?))
-    }
-
-    /// Ends the exchange, whose connection is over, with what came of the head.
-    fn conclude_head(&mut self, client: &mut Client) -> Result<Step, Memory> {
-        self.feed_head(client)?;
-        Ok(Step::Exchanged(self.conclude(client)?))
-    }
-
-    /// Ends the client's answer.
-    fn conclude(&mut self, client: &mut Client) -> Result<Exchanged, Memory> {
-        self.asked = false;
-        Ok(Exchanged {
-            delivered: client.end()?,
-            status: self.status,
-            alone: !self.is_shared,
-        })
-    }
-
-    /// Ends the connection, which is gone. The request is sent once more, or the exchange is over.
-    fn lose(&mut self, client: &mut Client) -> Result<Step, Memory> {
-        let begun = self.connection.left().is_some();
-        if self.connection.gone() {
-            return Ok(Step::More);
-        }
-        if !begun {
-            return self.conclude_head(client);
-        }
-        Ok(Step::Exchanged(self.conclude(client)?))
-    }
-
-    /// Ends the connection and the exchange.
-    fn let_go(&mut self, client: &mut Client) -> Result<Step, Memory> {
-        self.connection.end();
-        Ok(Step::Exchanged(self.conclude(client)?))
     }
 }

@@ -53,14 +53,15 @@ fn next_step(taken: usize, step: Step) -> NextStep {
     }
 }
 
-/// Returns the step of a check in numbers.
-fn check_step(taken: usize, step: CheckStep) -> NextStep {
+/// Returns the step of a check in numbers, whose answer has the status code `status`.
+fn check_step(taken: usize, step: CheckStep, status: u16) -> NextStep {
     match step {
         CheckStep::Connect => plain(1, taken),
         CheckStep::Write => plain(2, taken),
         CheckStep::Read => plain(3, taken),
         CheckStep::Checked(current) => NextStep {
             said: Said::of_current(current),
+            status: status as u32,
             ..plain(6, taken)
         },
         CheckStep::More => plain(8, taken),
@@ -74,7 +75,7 @@ fn go_on(held: &mut Held, bytes: &[u8]) -> Result<NextStep, Memory> {
         return Ok(next_step(progress.count, progress.step));
     };
     let progress = check.go_on(&held.client, bytes)?;
-    Ok(check_step(progress.count, progress.step))
+    Ok(check_step(progress.count, progress.step, check.status()))
 }
 
 /// Takes bytes that came, and says what is to be done next.
@@ -256,6 +257,7 @@ pub extern "C" fn delgunsai_client_exchanges(alloc: Global, client: &mut Handle,
 /// Begins the check whether the file is still the same: 1 where one is under way, 0 where the client has no revision.
 fn ask_same(alloc: Global, held: &mut Held) -> Result<i32, Memory> {
     held.begin_query();
+    held.dialogue.end();
     held.check = Check::new(alloc, &held.client)?;
     Ok(held.check.is_some() as i32)
 }

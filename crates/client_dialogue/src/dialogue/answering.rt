@@ -1,0 +1,243 @@
+//! Answers are taken.
+ghost use Rattle.std.specs.Prelude.{◌≡◌, ◌<◌, ◌≤◌, ℕ, [], false, true, Some, IfOk, IsSome, OnErr, OnOk, length, take};
+ghost use Rattle.client_dialogue.specs.declared.step.Step.TheVariants.{More};
+ghost use Rattle.client_dialogue.specs.Goes.{Fails, Goes, Says, rounds_of};
+ghost use Rattle.client_dialogue.specs.Inside.{Concludes, Feeds, Halts, HasGoneOn, IsConcluded, IsFedBy, IsHaltedBy, given_up};
+
+use crate::dialogue::Dialogue;
+use crate::step::{Exchanged, Progress, Step};
+use crate::useful::useful_length;
+use client_connection::{Part, law_answers_are_in_order};
+use cog_client::{Client, Delivered};
+use extents::Memory;
+use http_range::read_frame;
+
+/// Returns whether an answer was used: it brought blocks, or the client reads another revision from now on.
+fn is_used(delivered: Delivered) -> bool {
+    match delivered {
+        Delivered::Took(blocks) => blocks > 0,
+        Delivered::Restarted => true,
+        Delivered::Ignored(_) => false,
+    }
+}
+
+/// Returns the status code of a head, or 0 where it isn't whole.
+pub(crate) fn status_of(head: &[u8]) -> u16 {
+    read_frame(head).map_or(0, |frame| frame.status)
+}
+
+impl Dialogue {
+    /// Takes what came before the request was written.
+    pub(super) fn look(&mut self, client: &mut Client, bytes: &[u8]) -> Result<Progress, Memory>
+        requires busy { self.old.asked ≡ true }
+        requires opens { self.old.status.is_open ≡ true }
+        ensures few { IfOk result (λ progress. progress.count ≤ length bytes.now) }
+        ensures goes { IfOk result (λ progress. Goes (rounds_of progress.step) (take progress.count bytes.now) self.old client.old self.new client.new) }
+        ensures says { IfOk result (λ progress. Says progress.step self.new client.new) }
+        ensures err { OnErr result (Goes Fails [] self.old client.old self.new client.new) }
+    {
+        if bytes.is_empty() {
+            return Ok(Progress {
+                count: 0,
+                step: Step::Look,
+            });
+        }
+        let step = self.lose(client)?;
+        Ok(Progress {
+            count: bytes.len(),
+            step,
+        })
+    }
+
+    /// Takes bytes of the answer.
+    pub(super) fn take(&mut self, client: &mut Client, bytes: &[u8]) -> Result<Progress, Memory>
+        requires busy { self.old.asked ≡ true }
+        requires opens { self.old.status.is_open ≡ true }
+        requires more { ¬ (self.old.status.left ≡ Some 0) }
+        requires some { 0 < length bytes.now }
+        ensures few { IfOk result (λ progress. progress.count ≤ length bytes.now) }
+        ensures goes { IfOk result (λ progress. Goes (rounds_of progress.step) (take progress.count bytes.now) self.old client.old self.new client.new) }
+        ensures says { IfOk result (λ progress. Says progress.step self.new client.new) }
+        ensures err { OnErr result ((n : ℕ) × Goes Fails (take n bytes.now) self.old client.old self.new client.new) }
+    {
+        law_answers_are_in_order();
+        let most = self.most(bytes);
+        let Ok(taken) = self.connection.came(&bytes[..most]) else {
+            self.asked = false;
+            return Err(Memory);
+        };
+        let step = self.feed_part(client, taken.part, &bytes[..taken.count])?;
+        Ok(Progress {
+            count: taken.count,
+            step,
+        })
+    }
+
+    /// Feeds what the bytes are that the connection took.
+    fn feed_part(&mut self, client: &mut Client, part: Part, bytes: &[u8]) -> Result<Step, Memory>
+        ensures ok { IfOk result (λ step. IsFedBy part bytes.now step self.old client.old self.new client.new) }
+        ensures err { OnErr result (IsHaltedBy part bytes.now self.old client.old self.new client.new) }
+    {
+        match part {
+            Part::Head | Part::Interim | Part::Again => Ok(Step::More),
+            Part::Begun => self.begin_body(client),
+            Part::Body => self.feed_body(client, bytes),
+            Part::Refused | Part::Stray => self.conclude_head(client),
+        }
+    }
+
+    /// Returns how many of these bytes may be read of the answer that is under way.
+    fn most(&self, bytes: &[u8]) -> usize
+        ensures some { 0 < length bytes.now → 0 < result }
+        ensures few { result ≤ length bytes.now }
+    {
+        match self.connection.left() {
+            None => bytes.len(),
+            Some(_) => self.useful.max(1).min(bytes.len() as u64) as usize,
+        }
+    }
+
+    /// Returns whether all that is read of the answer came.
+    pub(super) fn is_read(&self) -> bool
+        ensures yes { result ≡ true → IsSome self.now.status.left }
+        ensures no { result ≡ false → ¬ (self.now.status.left ≡ Some 0) }
+    {
+        match self.connection.left() {
+            None => false,
+            Some(left) => left == 0 || self.useful == 0,
+        }
+    }
+
+    /// Feeds the head of an answer, which is whole.
+    fn begin_body(&mut self, client: &mut Client) -> Result<Step, Memory>
+        ensures ok { IfOk result (λ step. (step ≡ More) × (self.new ≡ self.old) × Feeds self.old.status.head client.old client.new) }
+        ensures err { OnErr result ((self.new ≡ given_up self.old) × Halts self.old.status.head client.old client.new) }
+    {
+        let head = self.connection.head();
+        self.status = status_of(head);
+        self.useful = useful_length(head, client.asked());
+        self.feed_head(client)?;
+        Ok(Step::More)
+    }
+
+    /// Feeds what came of the head.
+    fn feed_head(&mut self, client: &mut Client) -> Result<(), Memory>
+        ensures ok { OnOk result ((self.new ≡ self.old) × Feeds self.old.status.head client.old client.new) }
+        ensures err { OnErr result ((self.new ≡ given_up self.old) × Halts self.old.status.head client.old client.new) }
+    {
+        if client.feed(self.connection.head()).is_err() {
+            self.give_up();
+            return Err(Memory);
+        }
+        Ok(())
+    }
+
+    /// Feeds bytes of the body.
+    fn feed_body(&mut self, client: &mut Client, bytes: &[u8]) -> Result<Step, Memory>
+        ensures ok { IfOk result (λ step. (step ≡ More) × (self.new ≡ self.old) × Feeds bytes.now client.old client.new) }
+        ensures err { OnErr result ((self.new ≡ given_up self.old) × Halts bytes.now client.old client.new) }
+    {
+        self.useful = self.useful.saturating_sub(bytes.len() as u64);
+        if client.feed(bytes).is_err() {
+            self.give_up();
+            return Err(Memory);
+        }
+        Ok(Step::More)
+    }
+
+    /// Ends the exchange and its connection.
+    fn give_up(&mut self)
+        ensures { self.new ≡ given_up self.old }
+    {
+        self.asked = false;
+        self.connection.end();
+    }
+
+    /// Ends the exchange, whose connection is over, with what came of the head.
+    fn conclude_head(&mut self, client: &mut Client) -> Result<Step, Memory>
+        ensures ok { IfOk result (λ step. IsConcluded step self.old client.old self.new client.new) }
+        ensures err { OnErr result ((self.new ≡ given_up self.old) × Halts self.old.status.head client.old client.new) }
+    {
+        self.status = status_of(self.connection.head());
+        self.feed_head(client)?;
+        let exchanged = self.conclude(client)?;
+        Ok(Step::Exchanged(exchanged))
+    }
+
+    /// Ends the client's answer.
+    fn conclude(&mut self, client: &mut Client) -> Result<Exchanged, Memory>
+        ensures ok { IfOk result (λ exchanged. (self.new ≡ record self.old { asked = false }) × Concludes [] exchanged.delivered client.old client.new) }
+        ensures err { OnErr result ((self.new ≡ given_up self.old) × Halts [] client.old client.new) }
+    {
+        let Ok(delivered) = client.end() else {
+            self.give_up();
+            return Err(Memory);
+        };
+        self.asked = false;
+        Ok(Exchanged {
+            delivered,
+            status: self.status,
+            alone: !self.is_shared,
+        })
+    }
+
+    /// Ends an exchange of which as much was read as is to be. The connection goes on after a whole answer that was used.
+    pub(super) fn finish(&mut self, client: &mut Client) -> Result<Step, Memory>
+        requires busy { self.old.asked ≡ true }
+        requires opens { self.old.status.is_open ≡ true }
+        requires begun { IsSome self.old.status.left }
+        ensures goes { IfOk result (λ step. Goes (rounds_of step) [] self.old client.old self.new client.new) }
+        ensures says { IfOk result (λ step. Says step self.new client.new) }
+        ensures err { OnErr result (Goes Fails [] self.old client.old self.new client.new) }
+    {
+        law_answers_are_in_order();
+        let exchanged = self.conclude(client)?;
+        self.let_go_on(exchanged.delivered);
+        Ok(Step::Exchanged(exchanged))
+    }
+
+    /// Lets the connection go on after an answer that is whole and was used. Else ends it.
+    fn let_go_on(&mut self, delivered: Delivered)
+        ensures { HasGoneOn self.old self.new }
+    {
+        if self.connection.left() == Some(0) && is_used(delivered) {
+            self.connection.finish();
+            if self.is_early {
+                self.losses = 0;
+            }
+        } else {
+            self.connection.end();
+        }
+    }
+
+    /// Ends the connection, which is gone. The request is sent once more, or the exchange is over.
+    pub(super) fn lose(&mut self, client: &mut Client) -> Result<Step, Memory>
+        requires { self.old.asked ≡ true }
+        ensures goes { IfOk result (λ step. Goes (rounds_of step) [] self.old client.old self.new client.new) }
+        ensures says { IfOk result (λ step. Says step self.new client.new) }
+        ensures err { OnErr result (Goes Fails [] self.old client.old self.new client.new) }
+        ensures over { self.new.status.is_open ≡ false }
+    {
+        let begun = self.connection.left().is_some();
+        if self.connection.gone() {
+            return Ok(Step::More);
+        }
+        if !begun {
+            return self.conclude_head(client);
+        }
+        let exchanged = self.conclude(client)?;
+        Ok(Step::Exchanged(exchanged))
+    }
+
+    /// Ends the connection and the exchange.
+    pub(super) fn let_go(&mut self, client: &mut Client) -> Result<Step, Memory>
+        requires { self.old.asked ≡ true }
+        ensures goes { IfOk result (λ step. Goes (rounds_of step) [] self.old client.old self.new client.new) }
+        ensures says { IfOk result (λ step. Says step self.new client.new) }
+        ensures err { OnErr result (Goes Fails [] self.old client.old self.new client.new) }
+    {
+        self.connection.end();
+        let exchanged = self.conclude(client)?;
+        Ok(Step::Exchanged(exchanged))
+    }
+}
