@@ -23,8 +23,8 @@ class Examples(unittest.TestCase):
         self.assertEqual(printed.getvalue().splitlines(), re.findall(r'print\(.*# (.*)', lines))
 
     def test_many_of_docs(self):
-        """The lines of LIBRARY.md that read many windows give them in order."""
-        with open(os.path.join(TOP, 'docs', 'LIBRARY.md'), encoding='utf-8') as file:
+        """The lines of PYTHON.md that read many windows give them in order."""
+        with open(os.path.join(TOP, 'docs', 'PYTHON.md'), encoding='utf-8') as file:
             lines = re.search(r'```python\n(with delgunsai.open\(url.*?)```', file.read(), re.DOTALL)[1]
         with Cogserve({'a.tif': EXAMPLE}) as server:
             names = {'delgunsai': delgunsai, 'url': server.url('a.tif')}
@@ -35,9 +35,9 @@ class Examples(unittest.TestCase):
         self.assertEqual([array.tolist() for array in names['arrays']], parts)
 
     def test_rasterio_of_docs(self):
-        """The lines of LIBRARY.md for those who know rasterio give what stands after them."""
-        with open(os.path.join(TOP, 'docs', 'LIBRARY.md'), encoding='utf-8') as file:
-            lines = re.search(r'### For those who know rasterio.*?```python\n(.*?)```', file.read(), re.DOTALL)[1]
+        """The lines of PYTHON.md for those who know rasterio give what stands after them."""
+        with open(os.path.join(TOP, 'docs', 'PYTHON.md'), encoding='utf-8') as file:
+            lines = re.search(r'## For those who know rasterio.*?```python\n(.*?)```', file.read(), re.DOTALL)[1]
         names = {'delgunsai': delgunsai}
         exec(lines.replace('docs/example.tif', EXAMPLE), names)
         self.assertEqual([names[name].shape for name in 'abcd'], [(20, 20), (16, 32), (30, 32), (16, 16)])
@@ -52,8 +52,8 @@ class Examples(unittest.TestCase):
             self.assertIn(repr(file.crs), lines)
 
     def test_leaflet_of_docs(self):
-        """The lines of USE.md for other pages are those of the example."""
-        with open(os.path.join(TOP, 'docs', 'USE.md'), encoding='utf-8') as file:
+        """The lines of PYTHON.md for other pages are those of the example."""
+        with open(os.path.join(TOP, 'docs', 'PYTHON.md'), encoding='utf-8') as file:
             lines = re.search(r'```html\n(.*?)```', file.read(), re.DOTALL)[1]
         with open(os.path.join(TOP, 'docs', 'leaflet.html'), encoding='utf-8') as file:
             self.assertIn(lines, file.read())
