@@ -1,1 +1,3 @@
 mod HistoryLemmas
+mod Results
+mod TruthLemmas

@@ -1,14 +1,13 @@
 //! The exchanges of a client, one after another.
-ghost use Rattle.std.specs.Prelude.{◌≡◌, ◌≤◌, ℕ, [], false, true, IfOk, OnErr, OnOk, length, take};
+ghost use Rattle.std.specs.Prelude.{◌≡◌, ◌≤◌, [], false, true, IfOk, OnErr, OnOk, length, take};
 ghost use Rattle.client_connection.specs.Status.{over};
 ghost use Rattle.client_dialogue.specs.Goes.{BeginsAnew, Fails, Goes, MakesNone, Says, rounds_of};
 
 mod answering;
 mod asking;
 
-pub(crate) use answering::status_of;
-
 use crate::step::{Loss, Progress, Step};
+pub(crate) use answering::status_of;
 use client_connection::ClientConnection;
 use cog_client::Client;
 use extents::Memory;
@@ -79,11 +78,10 @@ impl Dialogue {
         ensures idle { self.new.asked ≡ false }
         ensures kept { self.old.asked ≡ false → self.new.status ≡ self.old.status }
     {
-        if self.asked {
-            self.connection.end();
-        }
-        self.asked = false;
         self.exchanges = exchanges;
+        if self.asked {
+            self.give_up();
+        }
     }
 
     /// Ends the connection, where no exchange is under way.
@@ -160,7 +158,7 @@ impl Dialogue {
         ensures few { IfOk result (λ progress. progress.count ≤ length bytes.now) }
         ensures goes { IfOk result (λ progress. Goes (rounds_of progress.step) (take progress.count bytes.now) self.old client.old self.new client.new) }
         ensures says { IfOk result (λ progress. Says progress.step self.new client.new) }
-        ensures err { OnErr result ((n : ℕ) × Goes Fails (take n bytes.now) self.old client.old self.new client.new) }
+        ensures err { OnErr result (Goes Fails [] self.old client.old self.new client.new) }
     {
         if !self.asked {
             let step = self.ask(client)?;

@@ -1,5 +1,5 @@
 //! Answers are taken.
-ghost use Rattle.std.specs.Prelude.{◌≡◌, ◌<◌, ◌≤◌, ℕ, [], false, true, Some, IfOk, IsSome, OnErr, OnOk, length, take};
+ghost use Rattle.std.specs.Prelude.{◌≡◌, ◌<◌, ◌≤◌, [], false, true, Some, IfOk, IsSome, OnErr, OnOk, length, take};
 ghost use Rattle.client_dialogue.specs.declared.step.Step.TheVariants.{More};
 ghost use Rattle.client_dialogue.specs.Goes.{Fails, Goes, Says, rounds_of};
 ghost use Rattle.client_dialogue.specs.Inside.{Concludes, Feeds, Halts, HasGoneOn, IsConcluded, IsFedBy, IsHaltedBy, given_up};
@@ -58,7 +58,7 @@ impl Dialogue {
         ensures few { IfOk result (λ progress. progress.count ≤ length bytes.now) }
         ensures goes { IfOk result (λ progress. Goes (rounds_of progress.step) (take progress.count bytes.now) self.old client.old self.new client.new) }
         ensures says { IfOk result (λ progress. Says progress.step self.new client.new) }
-        ensures err { OnErr result ((n : ℕ) × Goes Fails (take n bytes.now) self.old client.old self.new client.new) }
+        ensures err { OnErr result (Goes Fails [] self.old client.old self.new client.new) }
     {
         law_answers_are_in_order();
         let most = self.most(bytes);
@@ -115,7 +115,7 @@ impl Dialogue {
     {
         let head = self.connection.head();
         self.status = status_of(head);
-        self.useful = useful_length(head, client.asked());
+        self.useful = useful_length(head, client.asked(), client.tag());
         self.feed_head(client)?;
         Ok(Step::More)
     }
@@ -146,7 +146,7 @@ impl Dialogue {
     }
 
     /// Ends the exchange and its connection.
-    fn give_up(&mut self)
+    pub(super) fn give_up(&mut self)
         ensures { self.new ≡ given_up self.old }
     {
         self.asked = false;

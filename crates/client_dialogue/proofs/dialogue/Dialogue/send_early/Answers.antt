@@ -1,0 +1,30 @@
+use Rattle.std.proofs.Common.{[]}
+use Rattle.client_dialogue.specs.Goes.{Fails, Stays}
+use Rattle.client_dialogue.proofs.HistoryLemmas.{stays_goes, then_goes}
+use Rattle.client_dialogue.proofs.Results.{on_err}
+use Rattle.client_dialogue.proofs.dialogue.Dialogue.send_early.Goals as goal
+
+pub loop-request-init : goal.loop-request-init
+loop-request-init c = (stays_goes c.args.self.now c.args.client.now, c.requires)
+
+pub add_early-requires : goal.add_early-requires
+add_early-requires c = c.loop-request.invariant.1
+
+pub returns-in_err-add_early-clause-err : goal.returns-in_err-add_early-clause-err
+returns-in_err-add_early-clause-err c =
+    let d = c.args.client.now in
+    on_err c.from_residual.result _
+    (then_goes Fails [] c.args.self.now d c.loop-request.self d c.add_early.new.self d c.loop-request.invariant.0 c.in_err-add_early.ensures.err)
+
+pub loop-request-preserved : goal.loop-request-preserved
+loop-request-preserved c =
+    let d = c.args.client.now in (
+      then_goes Stays [] c.args.self.now d c.loop-request.self d c.add_early.new.self d c.loop-request.invariant.0 c.in_ok-add_early.ensures.ok,
+      c.in_ok-add_early.ensures.asked,
+    )
+
+pub returns-clause-ok : goal.returns-clause-ok
+returns-clause-ok c = c.loop-request.invariant.0
+
+pub returns-clause-asked : goal.returns-clause-asked
+returns-clause-asked c = c.loop-request.invariant.1

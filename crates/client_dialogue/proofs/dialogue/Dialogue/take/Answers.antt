@@ -1,0 +1,37 @@
+use Rattle.std.proofs.Common.{◌≡◌, ℕ, List, [], false, length, length-take, take, ap, arith, sym, subst, ◌∙◌}
+use Rattle.std.proofs.lemmas.List.{take-take}
+use Rattle.client_connection.specs.Status.{Status, Takes}
+use Rattle.client_dialogue.specs.History.{Talk}
+use Rattle.client_dialogue.specs.Goes.{Fails, Goes, rounds_of}
+use Rattle.client_dialogue.proofs.HistoryLemmas.{fed_goes, halt_goes, let_go_goes}
+use Rattle.client_dialogue.proofs.Results.{on_err}
+use Rattle.client_dialogue.proofs.dialogue.Dialogue.take.Goals as goal
+
+pub returns-in_default-clause-err : goal.returns-in_default-clause-err
+returns-in_default-clause-err c =
+    let t : Talk = record { status = c.self.inside.connection; asked = c.self.inside.asked; exchanges = c.self.inside.exchanges } in
+    let d = c.args.client.now in
+    subst (λ (x : Talk). Goes Fails [] x d (record t { status = c.came.new.self; asked = false }) d) c.self.view_is
+    (subst (λ (s : Status). Goes Fails [] t d (record { status = s; asked = false; exchanges = t.exchanges }) d) (sym c.in_default.ensures.err)
+    (let_go_goes t d (ap (λ (x : Talk). x.asked) c.self.view_is ∙ c.requires.busy)))
+
+pub returns-in_err-step-clause-err : goal.returns-in_err-step-clause-err
+returns-in_err-step-clause-err c =
+    let t : Talk = record { status = c.self.inside.connection; asked = c.self.inside.asked; exchanges = c.self.inside.exchanges } in
+    on_err c.from_residual.result _
+    (subst (λ (x : Talk). Goes Fails [] x c.args.client.now c.feed_part.new.self c.feed_part.new.client) c.self.view_is
+    (halt_goes c.in-Ok.taken.part _ t c.args.client.now c.came.new.self c.feed_part.new.self c.feed_part.new.client
+    (ap (λ (x : Talk). x.asked) c.self.view_is ∙ c.requires.busy) c.in_err-step.ensures.err))
+
+pub returns-clause-goes : goal.returns-clause-goes
+returns-clause-goes c =
+    let t : Talk = record { status = c.self.inside.connection; asked = c.self.inside.asked; exchanges = c.self.inside.exchanges } in
+    let n = c.in-Ok.taken.count in
+    subst (λ (x : Talk). Goes (rounds_of c.in_ok-step.step) (take n c.args.bytes.now) x c.args.client.now c.feed_part.new.self c.feed_part.new.client) c.self.view_is
+    (fed_goes c.law_answers_are_in_order.ensures.order c.in-Ok.taken.part (take n c.args.bytes.now) c.in_ok-step.step t c.args.client.now c.came.new.self
+    c.feed_part.new.self c.feed_part.new.client
+    (ap (λ (x : Talk). x.asked) c.self.view_is ∙ c.requires.busy) (ap (λ (x : Talk). x.status.is_open) c.self.view_is ∙ c.requires.opens)
+    (subst (λ (xs : List ℕ). Takes c.in-Ok.taken.part xs c.self.inside.connection c.came.new.self)
+    (take-take n c.most-most.result c.args.bytes.now (omega (arith, c.in-Ok.ensures.few, length-take c.most-most.result c.args.bytes.now)))
+    c.in-Ok.ensures.takes)
+    c.in-Ok.ensures.own c.in_ok-step.ensures.ok)
