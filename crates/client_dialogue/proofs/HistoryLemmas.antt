@@ -600,7 +600,7 @@ finished_goes order t c d what busy opens whole takes =
     ))
 
 pub finish_goes : AnswersAreInOrder → (t : Talk) (c d : ClientState) (u : Talk) (what : Delivered) → t.asked ≡ true → t.status.is_open ≡ true
-    → Concludes [] what c d → HasGoneOn (record t { asked = false }) u → Goes (MakesOne what) [] t c u d
+    → Concludes [] what c d → HasGoneOn what (record t { asked = false }) u → Goes (MakesOne what) [] t c u d
 finish_goes order t c d u what busy opens takes gone = elim gone [
   | inl went ↦ subst (λ (x : Talk). Goes (MakesOne what) [] t c x d) (sym went.1) (finished_goes order t c d what busy opens went.0 takes)
   | inr ended ↦ subst (λ (x : Talk). Goes (MakesOne what) [] t c x d) (sym ended)

@@ -1,9 +1,10 @@
 -- What a call of a dialogue does: whatever happened before, something more happened after it.
-use Rattle.std.specs.Prelude.{◌≡◌, ◌⊎◌, ◌<◌, ℕ, Bool, true, false, List, [], ◌∷◌, ◌++◌, length, Option, Some, None}
+use Rattle.std.specs.Prelude.{◌≡◌, ⊤, ◌⊎◌, ◌<◌, ℕ, Bool, true, false, List, [], ◌∷◌, ◌++◌, length, Option, Some, None}
 use Rattle.client_connection.specs.Run.{Event}
 use Rattle.client_connection.specs.Run.Event.{Asked, SentEarly, Opened, Wrote, Came, Finished, Gone, Ended}
 use Rattle.client_connection.specs.Status.{Status}
 use Rattle.cog_client.specs.declared.delivered.Delivered.{Delivered}
+use Rattle.cog_client.specs.declared.delivered.Delivered.TheVariants.{Ignored, Restarted, Took}
 use Rattle.cog_client.specs.Calls.{IsIdle}
 use Rattle.cog_client.specs.Client.{ClientState}
 use Rattle.client_dialogue.specs.History.{Exchange, History, IsHistory, Round, Talk}
@@ -56,14 +57,20 @@ abbrev pub rounds_of : Step → List Round → List Round → Type 0
 rounds_of (AnExchange e) before after = MakesOne e.delivered before after
 rounds_of step before after = MakesNone before after
 
--- what holds where a driver is to do this
+-- The answer was used: it brought blocks, or the client reads another revision from now on.
+abbrev pub IsUsed : Delivered → Type 0
+IsUsed (Took blocks) = 0 < blocks
+IsUsed Restarted = ⊤
+IsUsed (Ignored why) = ⊥
+
+-- what holds where a driver is to do this; a connection is there after an exchange only where its answer was used
 abbrev pub Says : Step → Talk → ClientState → Type 0
 Says Connect t c = (t.asked ≡ true) × (t.status.is_open ≡ false)
 Says Look t c = (t.asked ≡ true) × (t.status.is_open ≡ true)
 Says Write t c = (t.asked ≡ true) × (t.status.is_open ≡ true) × (0 < length t.status.waits)
 Says Read t c = (t.asked ≡ true) × (t.status.is_open ≡ true) × (t.status.waits ≡ [])
 Says More t c = t.asked ≡ true
-Says (AnExchange e) t c = t.asked ≡ false
+Says (AnExchange e) t c = (t.asked ≡ false) × (t.status.is_open ≡ true → IsUsed e.delivered)
 Says Over t c = (t.asked ≡ false) × ((t.exchanges ≡ 0) ⊎ IsIdle c)
 
 -- Between exchanges a query of any client may begin, of which so many exchanges are allowed.

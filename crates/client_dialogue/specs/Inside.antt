@@ -7,6 +7,7 @@ use Rattle.cog_client.specs.declared.delivered.Delivered.{Delivered}
 use Rattle.cog_client.specs.Client.{ClientState}
 use Rattle.cog_client.specs.FedClient.{Fed}
 use Rattle.cog_client.specs.Keeps.{DeliversKeeping, StopsDelivery}
+use Rattle.client_dialogue.specs.Goes.{IsUsed}
 use Rattle.client_dialogue.specs.History.{Talk}
 use Rattle.client_dialogue.specs.declared.step.Exchanged.{Exchanged}
 use Rattle.client_dialogue.specs.declared.step.Step.{Step}
@@ -28,9 +29,10 @@ Concludes bytes what c d = (s : ClientState) (p : List ℕ) → Fed s p c → De
 abbrev pub given_up : Talk → Talk
 given_up t = record t { status = over []; asked = false }
 
--- The connection went on after an answer that is whole, or it was ended.
-abbrev pub HasGoneOn : Talk → Talk → Type 0
-HasGoneOn t u = ((t.status.left ≡ Some 0) × (u ≡ record t { status = after_finish t.status })) ⊎ (u ≡ record t { status = over [] })
+-- The connection went on after an answer that is whole and was used, or it was ended.
+abbrev pub HasGoneOn : Delivered → Talk → Talk → Type 0
+HasGoneOn what t u = ((t.status.left ≡ Some 0) × (u ≡ record t { status = after_finish t.status }) × IsUsed what)
+    ⊎ (u ≡ record t { status = over [] })
 
 -- The exchange is over with what came of the head.
 abbrev pub IsConcluded : Step → Talk → ClientState → Talk → ClientState → Type 0

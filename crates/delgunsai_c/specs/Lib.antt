@@ -1,8 +1,10 @@
 pub mod Owned
 pub mod Handle
+pub mod Driving
 pub mod Failure
 pub mod Laid
 pub mod Said
 pub mod Calls
 pub mod Answers
 pub mod Told
+pub mod Moving

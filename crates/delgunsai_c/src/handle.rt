@@ -16,7 +16,7 @@ pub struct Handle {
 }
 
 impl Handle {
-    ghost use Rattle.delgunsai_c.specs.Handle.{client_of};
+    ghost use Rattle.delgunsai_c.specs.Handle.{client_of, held_of};
 
     /// A handle without a client.
     fn empty(alloc: Global) -> Handle
@@ -33,6 +33,9 @@ impl Handle {
         ensures left { client_of self.new ≡ None }
         ensures some { IfSome result (λ b. client_of self.old ≡ Some b.value.client) }
         ensures none { result ≡ None → client_of self.old ≡ None }
+        ensures held_left { held_of self.new ≡ None }
+        ensures held_some { IfSome result (λ b. held_of self.old ≡ Some b.value) }
+        ensures held_none { result ≡ None → held_of self.old ≡ None }
     {
         let old = std::mem::replace(self, Handle::empty(alloc));
         let Handle { place, full } = old;
@@ -45,7 +48,8 @@ impl Handle {
 
     /// Puts a client in.
     pub fn put(&mut self, client: Box<Held>)
-        ensures { client_of self.new ≡ Some client.value.client }
+        ensures is { client_of self.new ≡ Some client.value.client }
+        ensures held { held_of self.new ≡ Some client.value }
     {
         *self = Handle {
             place: ClientPointer::of_parts(RawParts::of(client)),

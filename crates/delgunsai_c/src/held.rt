@@ -1,4 +1,7 @@
 //! What a handle holds: a client, and its exchanges.
+ghost use Rattle.std.specs.Prelude.{◌≡◌, None, false};
+ghost use Rattle.client_dialogue.specs.Goes.{BeginsAnew};
+
 use client_dialogue::{Check, Dialogue};
 use cog_client::Client;
 
@@ -15,7 +18,11 @@ pub struct Held {
 impl Held {
     /// Begins a query: what is under way is dropped with its connection.
     pub fn begin_query(&mut self)
-        ensures { self.new.client ≡ self.old.client }
+        ensures client { self.new.client ≡ self.old.client }
+        ensures check { self.new.check ≡ None }
+        ensures exchanges { self.new.exchanges ≡ self.old.exchanges }
+        ensures begins { BeginsAnew self.old.exchanges self.old.dialogue self.new.dialogue }
+        ensures idle { self.new.dialogue.asked ≡ false }
     {
         self.check = None;
         self.dialogue.begin(self.exchanges);

@@ -1,5 +1,6 @@
 //! A text in a caller's room.
 ghost use Rattle.delgunsai_c.specs.Laid.{Lays};
+ghost use Rattle.delgunsai_c.specs.Moving.{LaysFront};
 
 /// Lays a text into the front of a caller's room, if there is room for it, and says how long it is, which is the room that is
 /// wanted.
@@ -12,9 +13,11 @@ pub fn lay(text: &[u8], room: &mut [u8]) -> i64
     text.len() as i64
 }
 
-/// Lays as much of the front of a text into a caller's room as there is room for, and says how long it is.
-pub fn lay_front(text: &[u8], room: &mut [u8]) -> usize {
+/// Lays as much of the front of a text into a caller's room as it has place for, and says how long the text is.
+pub fn lay_front(text: &[u8], room: &mut [u8]) -> i64
+    ensures { LaysFront text.now room.old room.new result }
+{
     let count = text.len().min(room.len());
     room[..count].copy_from_slice(&text[..count]);
-    count
+    text.len() as i64
 }

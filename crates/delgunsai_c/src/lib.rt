@@ -9,6 +9,7 @@ mod handle;
 mod held;
 mod laying;
 mod making;
+mod moving;
 mod pairs;
 mod parts;
 mod queries;

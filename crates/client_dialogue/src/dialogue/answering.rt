@@ -1,7 +1,7 @@
 //! Answers are taken.
 ghost use Rattle.std.specs.Prelude.{◌≡◌, ◌<◌, ◌≤◌, [], false, true, Some, IfOk, IsSome, OnErr, OnOk, length, take};
 ghost use Rattle.client_dialogue.specs.declared.step.Step.TheVariants.{More};
-ghost use Rattle.client_dialogue.specs.Goes.{Fails, Goes, Says, rounds_of};
+ghost use Rattle.client_dialogue.specs.Goes.{Fails, Goes, IsUsed, Says, rounds_of};
 ghost use Rattle.client_dialogue.specs.Inside.{Concludes, Feeds, Halts, HasGoneOn, IsConcluded, IsFedBy, IsHaltedBy, given_up};
 
 use crate::dialogue::Dialogue;
@@ -13,7 +13,9 @@ use extents::Memory;
 use http_range::read_frame;
 
 /// Returns whether an answer was used: it brought blocks, or the client reads another revision from now on.
-fn is_used(delivered: Delivered) -> bool {
+fn is_used(delivered: Delivered) -> bool
+    ensures { result ≡ true → IsUsed delivered }
+{
     match delivered {
         Delivered::Took(blocks) => blocks > 0,
         Delivered::Restarted => true,
@@ -198,7 +200,7 @@ impl Dialogue {
 
     /// Lets the connection go on after an answer that is whole and was used. Else ends it.
     fn let_go_on(&mut self, delivered: Delivered)
-        ensures { HasGoneOn self.old self.new }
+        ensures { HasGoneOn delivered self.old self.new }
     {
         if self.connection.left() == Some(0) && is_used(delivered) {
             self.connection.finish();

@@ -15,4 +15,4 @@ pub returns-clause-goes : goal.returns-clause-goes
 returns-clause-goes c =
     finish_goes c.law_answers_are_in_order.ensures.order c.args.self.now c.args.client.now c.conclude.new.client c.let_go_on.new.self
     c.in_ok-exchanged.exchanged.delivered c.requires.busy c.requires.opens c.in_ok-exchanged.ensures.ok.1
-    (subst (λ (x : Talk). HasGoneOn x c.let_go_on.new.self) c.in_ok-exchanged.ensures.ok.0 c.let_go_on.ensures)
+    (subst (λ (x : Talk). HasGoneOn c.in_ok-exchanged.exchanged.delivered x c.let_go_on.new.self) c.in_ok-exchanged.ensures.ok.0 c.let_go_on.ensures)

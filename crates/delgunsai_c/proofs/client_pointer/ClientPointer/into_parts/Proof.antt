@@ -2,7 +2,7 @@
 use mathlib.Core.Path.{refl, sym, subst}
 use Rattle.std.specs.Prelude.{Option, None, Some, IsSome}
 use Rattle.std.specs.declared.alloc.Global.{Global}
-use Rattle.cog_client.specs.Client.{ClientState}
+use Rattle.delgunsai_c.specs.declared.held.Held.{Held}
 use mathlib.Core.List.{List, [], ◌∷◌, ◌++◌}
 use seplogic.Ra.Ura.{Ura}
 use mir.Val.{Val}
@@ -45,7 +45,7 @@ module _ {M : Type 1} {𝓤 : Ura M} (𝓛 : Logic 𝓤) (at_mem : Memory → SP
   Ghosts = (walk_of 𝓛 F.ended stayed (F.clauses 𝓛 at_mem run)).Ghost
 
   -- at a place that has a client: what it owns is what the box owns
-  held : (p : Ptr) (a : Global) (i : Option ClientState) (vs : List Val) → IsSome i
+  held : (p : Ptr) (a : Global) (i : Option Held) (vs : List Val) → IsSome i
       → let z : Ghosts = ((tt, tt, tt, (record { at = p; alloc = a; inside = i }, tt), (vs, tt)), tt) in
       ent 𝓤 (on_entry 𝓛 F.signature tt tt z.0.3 z.0.4) (WpFn 𝓤 H 𝓣.C 𝓣.Λ code.function (vs ++ []) ((walk_of 𝓛 F.ended stayed (F.clauses 𝓛 at_mem run)).post z))
   held p a (Some s) vs _ =

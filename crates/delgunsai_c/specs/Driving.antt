@@ -1,0 +1,85 @@
+-- What a driver's call from C does to what its handle holds, and what it says in numbers.
+use Rattle.std.specs.Prelude.{◌≡◌, ◌⊎◌, ◌≤◌, ℕ, ℤ, pos, Bool, true, false, if◌then◌else◌, List, [], length, take, Option, None, Some, Result, Ok, Err}
+use Rattle.client_connection.specs.Status.{Status, after_gone, after_open, after_write, over}
+use Rattle.cog_client.specs.declared.delivered.Current.{Current}
+use Rattle.cog_client.specs.Check.{check_of}
+use Rattle.client_dialogue.specs.Checking.{ChecksBy, IsCheckOf}
+use Rattle.client_dialogue.specs.Goes.{BeginsAnew, Fails, Goes, MakesNone, Says, rounds_of}
+use Rattle.client_dialogue.specs.History.{Talk}
+use Rattle.client_dialogue.specs.declared.check.CheckStep.{CheckStep}
+use Rattle.client_dialogue.specs.declared.check.CheckStep.TheVariants as check
+use Rattle.client_dialogue.specs.declared.step.Step.{Step}
+use Rattle.client_dialogue.specs.declared.step.Step.TheVariants.{Connect, Exchanged, Look, More, Over, Read, Write}
+use Rattle.extents.specs.declared.memory.Memory.{Memory as NoMemory}
+use Rattle.delgunsai_c.specs.declared.driving.NextStep.{NextStep}
+use Rattle.delgunsai_c.specs.declared.failure.Failure.TheVariants.{Memory, NoClient, Order}
+use Rattle.delgunsai_c.specs.declared.held.Held.{Held}
+use Rattle.delgunsai_c.specs.Failure.{code_of}
+use Rattle.delgunsai_c.specs.Said.{said_of_current, said_of_delivered}
+
+-- ---- the numbers
+
+abbrev pub plain : ℕ → ℕ → NextStep
+plain kind taken = record { taken = taken; kind = kind; said = record { kind = 0; number = 0 }; status = 0; alone = 0 }
+
+abbrev pub bit : Bool → ℕ
+bit b = if b then 1 else 0
+
+abbrev pub numbers_of : ℕ → Step → NextStep
+numbers_of taken Connect = plain 1 taken
+numbers_of taken Write = plain 2 taken
+numbers_of taken Read = plain 3 taken
+numbers_of taken Look = plain 4 taken
+numbers_of taken (Exchanged e) =
+    record { taken = taken; kind = 5; said = said_of_delivered e.delivered; status = e.status; alone = bit e.alone }
+numbers_of taken Over = plain 7 taken
+numbers_of taken More = plain 8 taken
+
+abbrev pub check_numbers_of : ℕ → CheckStep → ℕ → NextStep
+check_numbers_of taken check.Connect status = plain 1 taken
+check_numbers_of taken check.Write status = plain 2 taken
+check_numbers_of taken check.Read status = plain 3 taken
+check_numbers_of taken (check.Checked current) status =
+    record { taken = taken; kind = 6; said = said_of_current current; status = status; alone = 0 }
+check_numbers_of taken check.More status = plain 8 taken
+
+-- ---- a call
+
+-- Something was held, and this came of it; or nothing was, nothing is, and the number says so.
+abbrev pub Drives : (Held → Held → Type 0) → Option Held → Option Held → ℤ → Type 0
+Drives does old new told = ((h : Held) × (k : Held) × (old ≡ Some h) × (new ≡ Some k) × does h k)
+    ⊎ ((old ≡ None) × (new ≡ None) × (told ≡ code_of NoClient))
+
+-- The exchanges went on so, and no check is under way.
+abbrev pub GoesOn : (bytes : List ℕ) (n : ℕ) (step : Step) → Held → Held → Type 0
+GoesOn bytes n step h k = (n ≤ length bytes) × Goes (rounds_of step) (take n bytes) h.dialogue h.client k.dialogue k.client
+    × Says step k.dialogue k.client × (k.check ≡ None)
+
+-- after a step of a check nothing of it is left where it is over
+abbrev pub check_after : CheckStep → Status → Option Status
+check_after (check.Checked current) s = None
+check_after step s = Some s
+
+-- The check went on so; client and exchanges stay.
+abbrev pub ChecksOn : (bytes : List ℕ) (n : ℕ) (step : CheckStep) → Status → Held → Held → Type 0
+ChecksOn bytes n step s h k = (n ≤ length bytes) × (k.dialogue ≡ h.dialogue) × (k.client ≡ h.client)
+    × ((new : Status) × ChecksBy h.client step (take n bytes) s new × (k.check ≡ check_after step new))
+
+abbrev pub DrivesBy : Option Status → List ℕ → NextStep → Held → Held → Type 0
+DrivesBy None bytes out h k = (n : ℕ) × (step : Step) × (out ≡ numbers_of n step) × GoesOn bytes n step h k
+DrivesBy (Some s) bytes out h k =
+    (n : ℕ) × (step : CheckStep) × (status : ℕ) × (out ≡ check_numbers_of n step status) × ChecksOn bytes n step s h k
+
+-- Memory was wanting: the exchange is over, or the check is.
+abbrev pub FailsBy : Option Status → Held → Held → Type 0
+FailsBy None h k = Goes Fails [] h.dialogue h.client k.dialogue k.client × (k.check ≡ None)
+FailsBy (Some s) h k = (k.dialogue ≡ h.dialogue) × (k.client ≡ h.client) × (k.check ≡ None)
+
+-- the step is laid into the room, and the number is 0; or the room stays, and the number says that memory was wanting
+abbrev pub TellsStep : Result NextStep NoMemory → NextStep → NextStep → ℤ → Type 0
+TellsStep (Ok step) out left told = (left ≡ step) × (told ≡ pos 0)
+TellsStep (Err e) out left told = (left ≡ out) × (told ≡ code_of Memory)
+
+abbrev pub DrivesOr : List ℕ → NextStep → NextStep → ℤ → Held → Held → Type 0
+DrivesOr bytes out left told h k =
+    ((told ≡ pos 0) × DrivesBy h.check bytes left h k) ⊎ ((told ≡ code_of Memory) × (left ≡ out) × FailsBy h.check h k)

@@ -1,0 +1,208 @@
+//! A driver notes what became of its connection.
+ghost use Rattle.std.specs.Prelude.{◌≡◌, None};
+ghost use Rattle.delgunsai_c.specs.Driving.{Drives};
+ghost use Rattle.delgunsai_c.specs.Handle.{held_of};
+ghost use Rattle.delgunsai_c.specs.Moving.{AsksSame, Connects, EndsBy, EndsOr, Keeps, LaysWaiting, SetsExchanges, Writes, waits_of};
+
+use crate::driving::{NextStep, lay_step, next_step, plain};
+use crate::failure::Failure;
+use crate::handle::Handle;
+use crate::held::Held;
+use crate::laying::lay_front;
+use client_dialogue::{Check, Loss};
+use extents::Memory;
+use std::alloc::Global;
+
+/// Returns the bytes that are to be written.
+fn waiting(held: &Held) -> &[u8]
+    ensures { result.now ≡ waits_of held.now }
+{
+    match &held.check {
+        Some(check) => check.waiting(),
+        None => held.dialogue.waiting(),
+    }
+}
+
+/// Lays the first of the bytes that are to be written into a caller's room, and says how many there are.
+#[unsafe(no_mangle)]
+pub extern "C" fn delgunsai_client_waiting(
+    alloc: Global,
+    client: &mut Handle,
+    room: &mut [u8],
+) -> i64
+    ensures does { Drives (λ h k. LaysWaiting h room.old room.new result × (k ≡ h)) (held_of client.old) (held_of client.new) result }
+    ensures untouched { held_of client.old ≡ None → room.new ≡ room.old }
+{
+    let Some(held) = client.take(alloc) else {
+        return Failure::NoClient.code() as i64;
+    };
+    let told = lay_front(waiting(&held), room);
+    client.put(held);
+    told
+}
+
+/// Notes that bytes which waited were written.
+fn wrote(held: &mut Held, count: usize) -> i32
+    ensures { Writes count result held.old held.new }
+{
+    if count > waiting(held).len() {
+        return Failure::Order.code();
+    }
+    match &mut held.check {
+        Some(check) => check.wrote(count),
+        None => {
+            if !held.dialogue.is_asked() || !held.dialogue.is_open() {
+                return Failure::Order.code();
+            }
+            held.dialogue.wrote(&held.client, count);
+        }
+    }
+    0
+}
+
+/// Notes that the first bytes that waited were written.
+#[unsafe(no_mangle)]
+pub extern "C" fn delgunsai_client_wrote(alloc: Global, client: &mut Handle, count: usize) -> i32
+    ensures { Drives (Writes count result) (held_of client.old) (held_of client.new) result }
+{
+    let Some(mut held) = client.take(alloc) else {
+        return Failure::NoClient.code();
+    };
+    let told = wrote(&mut held, count);
+    client.put(held);
+    told
+}
+
+/// Notes that a new connection is there.
+fn connected(held: &mut Held) -> i32
+    ensures { Connects result held.old held.new }
+{
+    let connected = match &mut held.check {
+        Some(check) if check.is_open() => return Failure::Order.code(),
+        Some(check) => check.connected(),
+        None if !held.dialogue.is_asked() => return Failure::Order.code(),
+        None => held.dialogue.connected(&held.client),
+    };
+    match connected {
+        Ok(()) => 0,
+        Err(Memory) => Failure::Memory.code(),
+    }
+}
+
+/// Notes that a new connection is there.
+#[unsafe(no_mangle)]
+pub extern "C" fn delgunsai_client_connected(alloc: Global, client: &mut Handle) -> i32
+    ensures { Drives (Connects result) (held_of client.old) (held_of client.new) result }
+{
+    let Some(mut held) = client.take(alloc) else {
+        return Failure::NoClient.code();
+    };
+    let told = connected(&mut held);
+    client.put(held);
+    told
+}
+
+/// Notes that the connection is silent.
+#[unsafe(no_mangle)]
+pub extern "C" fn delgunsai_client_silent(alloc: Global, client: &mut Handle) -> i32
+    ensures { Drives (Keeps result) (held_of client.old) (held_of client.new) result }
+{
+    let Some(mut held) = client.take(alloc) else {
+        return Failure::NoClient.code();
+    };
+    held.dialogue.silent();
+    client.put(held);
+    0
+}
+
+/// Returns how a connection was lost, by its number: 1, ended; 3, late; any other, failed.
+fn loss_of(how: u32) -> Loss {
+    match how {
+        1 => Loss::Ended,
+        3 => Loss::Late,
+        _ => Loss::Failed,
+    }
+}
+
+/// Notes that the connection is gone.
+fn gone(held: &mut Held, how: Loss) -> Result<NextStep, Memory>
+    ensures { EndsBy result held.old held.new }
+{
+    if let Some(check) = &mut held.check {
+        check.gone();
+        return Ok(plain(8, 0));
+    }
+    if !held.dialogue.is_asked() {
+        held.dialogue.end();
+        return Ok(plain(8, 0));
+    }
+    let step = held.dialogue.gone(&mut held.client, how)?;
+    Ok(next_step(0, step))
+}
+
+/// Notes that the connection is gone, and how, and says what is to be done next.
+#[unsafe(no_mangle)]
+pub extern "C" fn delgunsai_client_gone(
+    alloc: Global,
+    client: &mut Handle,
+    how: u32,
+    step: &mut NextStep,
+) -> i32
+    ensures does { Drives (EndsOr step.old step.new result) (held_of client.old) (held_of client.new) result }
+    ensures untouched { held_of client.old ≡ None → step.new ≡ step.old }
+{
+    let Some(mut held) = client.take(alloc) else {
+        return Failure::NoClient.code();
+    };
+    let gone = gone(&mut held, loss_of(how));
+    let told = lay_step(gone, step);
+    client.put(held);
+    told
+}
+
+/// Sets how many exchanges each query from here on may take. What is under way is dropped.
+#[unsafe(no_mangle)]
+pub extern "C" fn delgunsai_client_exchanges(
+    alloc: Global,
+    client: &mut Handle,
+    exchanges: u32,
+) -> i32
+    ensures { Drives (SetsExchanges exchanges result) (held_of client.old) (held_of client.new) result }
+{
+    let Some(mut held) = client.take(alloc) else {
+        return Failure::NoClient.code();
+    };
+    held.exchanges = exchanges;
+    held.begin_query();
+    client.put(held);
+    0
+}
+
+/// Begins the check whether the file is still the same, over a connection of its own. The number says whether there is one.
+fn ask_same(alloc: Global, held: &mut Held) -> i32
+    ensures { AsksSame result held.old held.new }
+{
+    held.begin_query();
+    held.dialogue.end();
+    match Check::new(alloc, &held.client) {
+        Ok(Some(check)) => {
+            held.check = Some(check);
+            1
+        }
+        Ok(None) => 0,
+        Err(_) => Failure::Memory.code(),
+    }
+}
+
+/// Begins the check whether the file is still the same.
+#[unsafe(no_mangle)]
+pub extern "C" fn delgunsai_client_ask_same(alloc: Global, client: &mut Handle) -> i32
+    ensures { Drives (AsksSame result) (held_of client.old) (held_of client.new) result }
+{
+    let Some(mut held) = client.take(alloc) else {
+        return Failure::NoClient.code();
+    };
+    let told = ask_same(alloc, &mut held);
+    client.put(held);
+    told
+}
