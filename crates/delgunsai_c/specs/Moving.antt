@@ -42,23 +42,32 @@ WritesBy None count h k =
     Goes MakesNone [] h.dialogue h.client k.dialogue k.client × (k.client ≡ h.client) × (k.check ≡ None)
 WritesBy (Some s) count h k = k ≡ record h { check = Some (after_write count s) }
 
+-- an exchange is under way on a connection that is there
+abbrev pub IsConnected : Held → Type 0
+IsConnected h = (h.check ≡ None) × (h.dialogue.asked ≡ true) × (h.dialogue.status.is_open ≡ true)
+
 -- It is noted; or more was written than waited, or nothing was to be.
 abbrev pub Writes : ℕ → ℤ → Held → Held → Type 0
-Writes count told h k =
-    ((told ≡ pos 0) × (count ≤ length (waits_of h)) × WritesBy h.check count h k) ⊎ IsOutOfOrder told h k
+Writes count told h k = ((told ≡ pos 0) × WritesBy h.check count h k)
+    ⊎ (IsOutOfOrder told h k × (count ≤ length (waits_of h) → IsConnected h → ⊥))
 
 -- ---- a new connection
+
+-- a check has its connection, or there was no memory for it, or it had one
+abbrev pub OpensCheck : ℤ → Status → Status → Type 0
+OpensCheck told s new = ((told ≡ pos 0) × (new ≡ after_open s)) ⊎ ((told ≡ code_of Memory) × (new ≡ over []))
+    ⊎ ((told ≡ code_of Order) × (new ≡ s) × (s.is_open ≡ true))
 
 abbrev pub ConnectsBy : Option Status → ℤ → Held → Held → Type 0
 ConnectsBy None told h k = (k.client ≡ h.client) × (k.check ≡ None)
     × (((told ≡ pos 0) × Goes MakesNone [] h.dialogue h.client k.dialogue k.client)
-      ⊎ ((told ≡ code_of Memory) × Goes Fails [] h.dialogue h.client k.dialogue k.client))
-ConnectsBy (Some s) told h k = ((told ≡ pos 0) × (k ≡ record h { check = Some (after_open s) }))
-    ⊎ ((told ≡ code_of Memory) × (k ≡ record h { check = Some (over []) }))
+    ⊎ ((told ≡ code_of Memory) × Goes Fails [] h.dialogue h.client k.dialogue k.client))
+ConnectsBy (Some s) told h k = (new : Status) × OpensCheck told s new × (k ≡ record h { check = Some new })
 
--- It is noted; or none was to be made.
+-- It is noted; or no exchange is under way.
 abbrev pub Connects : ℤ → Held → Held → Type 0
-Connects told h k = ConnectsBy h.check told h k ⊎ IsOutOfOrder told h k
+Connects told h k = ConnectsBy h.check told h k
+    ⊎ (IsOutOfOrder told h k × (h.check ≡ None) × (h.dialogue.asked ≡ false))
 
 -- ---- the end of a connection
 
@@ -67,8 +76,8 @@ abbrev pub EndsTo : Option Status → Result NextStep NoMemory → Held → Held
 EndsTo (Some s) result h k = (result ≡ Ok (plain 8 0)) × (k ≡ record h { check = Some (after_gone s) })
 EndsTo None (Ok out) h k = (k.check ≡ None)
     × (((out ≡ plain 8 0) × (k.client ≡ h.client) × BeginsAnew h.dialogue.exchanges h.dialogue k.dialogue)
-      ⊎ ((step : Step) × (out ≡ numbers_of 0 step) × Goes (rounds_of step) [] h.dialogue h.client k.dialogue k.client
-        × Says step k.dialogue k.client))
+    ⊎ ((step : Step) × (out ≡ numbers_of 0 step) × Goes (rounds_of step) [] h.dialogue h.client k.dialogue k.client
+    × Says step k.dialogue k.client))
 EndsTo None (Err e) h k = Goes Fails [] h.dialogue h.client k.dialogue k.client × (k.check ≡ None)
 
 abbrev pub EndsBy : Result NextStep NoMemory → Held → Held → Type 0
@@ -80,12 +89,15 @@ EndsOr out left told h k = (result : Result NextStep NoMemory) × EndsBy result 
 -- ---- queries, and checks
 
 -- Any query may begin, and nothing else changes.
-abbrev pub SetsExchanges : ℕ → ℤ → Held → Held → Type 0
-SetsExchanges exchanges told h k = (told ≡ pos 0) × (k.client ≡ h.client) × (k.check ≡ None) × (k.exchanges ≡ exchanges)
-    × BeginsAnew exchanges h.dialogue k.dialogue
+pub record SetsExchanges (exchanges : ℕ) (told : ℤ) (h k : Held) : Type 0 where
+  pub says : told ≡ pos 0
+  pub client : k.client ≡ h.client
+  pub check : k.check ≡ None
+  pub most : k.exchanges ≡ exchanges
+  pub begins : BeginsAnew exchanges h.dialogue k.dialogue
 
 -- The check is under way, on a connection of its own; or there is none, since the client has no revision, or for want of memory.
 abbrev pub AsksSame : ℤ → Held → Held → Type 0
 AsksSame told h k = (k.client ≡ h.client) × (k.dialogue.status ≡ over [])
     × (((told ≡ code_of Memory) × (k.check ≡ None)) ⊎ ((told ≡ pos 0) × (check_of h.client ≡ None) × (k.check ≡ None))
-      ⊎ ((told ≡ pos 1) × IsCheckOf (check_of h.client) k.check))
+    ⊎ ((told ≡ pos 1) × IsCheckOf (check_of h.client) k.check))

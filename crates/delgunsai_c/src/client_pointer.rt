@@ -3,8 +3,8 @@ ghost use Rattle.std.specs.Prelude.{◌≡◌, Option, None, Some, IsSome};
 ghost use Rattle.delgunsai_c.specs.declared.held.Held.{Held};
 ghost use Rattle.delgunsai_c.specs.Owned.{inside_coded, owned};
 
-use crate::parts::RawParts;
 use crate::held::Held;
+use crate::parts::RawParts;
 use std::alloc::Global;
 use std::marker::Model;
 use std::ptr::null_mut;

@@ -2,8 +2,8 @@
 ghost use Rattle.std.specs.Prelude.{◌≡◌, ◌↔◌, None, Some, IfSome, IsSome, IsTrue};
 
 use crate::client_pointer::ClientPointer;
-use crate::parts::RawParts;
 use crate::held::Held;
+use crate::parts::RawParts;
 use std::alloc::Global;
 
 /// A client in the heap, or none. C makes one of zeros, which has none.

@@ -2,7 +2,7 @@
 ghost use Rattle.std.specs.Prelude.{◌≡◌, None};
 ghost use Rattle.delgunsai_c.specs.Driving.{Drives};
 ghost use Rattle.delgunsai_c.specs.Handle.{held_of};
-ghost use Rattle.delgunsai_c.specs.Moving.{AsksSame, Connects, EndsBy, EndsOr, Keeps, LaysWaiting, SetsExchanges, Writes, waits_of};
+ghost use Rattle.delgunsai_c.specs.Moving.{AsksSame, Connects, EndsBy, EndsOr, Keeps, LaysWaiting, OpensCheck, SetsExchanges, Writes, waits_of};
 
 use crate::driving::{NextStep, lay_step, next_step, plain};
 use crate::failure::Failure;
@@ -73,19 +73,40 @@ pub extern "C" fn delgunsai_client_wrote(alloc: Global, client: &mut Handle, cou
     told
 }
 
+/// Notes that the new connection of a check is there.
+fn check_connected(check: &mut Check) -> i32
+    ensures { OpensCheck result check.old check.new }
+{
+    if check.is_open() {
+        return Failure::Order.code();
+    }
+    match check.connected() {
+        Ok(()) => 0,
+        Err(Memory) => Failure::Memory.code(),
+    }
+}
+
+/// Notes that the new connection of an exchange is there.
+fn exchange_connected(held: &mut Held) -> i32
+    requires { held.old.check ≡ None }
+    ensures { Connects result held.old held.new }
+{
+    if !held.dialogue.is_asked() {
+        return Failure::Order.code();
+    }
+    match held.dialogue.connected(&held.client) {
+        Ok(()) => 0,
+        Err(Memory) => Failure::Memory.code(),
+    }
+}
+
 /// Notes that a new connection is there.
 fn connected(held: &mut Held) -> i32
     ensures { Connects result held.old held.new }
 {
-    let connected = match &mut held.check {
-        Some(check) if check.is_open() => return Failure::Order.code(),
-        Some(check) => check.connected(),
-        None if !held.dialogue.is_asked() => return Failure::Order.code(),
-        None => held.dialogue.connected(&held.client),
-    };
-    match connected {
-        Ok(()) => 0,
-        Err(Memory) => Failure::Memory.code(),
+    match &mut held.check {
+        Some(check) => check_connected(check),
+        None => exchange_connected(held),
     }
 }
 
@@ -160,6 +181,15 @@ pub extern "C" fn delgunsai_client_gone(
     told
 }
 
+/// Sets how many exchanges each query may take.
+fn set_exchanges(held: &mut Held, exchanges: u32) -> i32
+    ensures { SetsExchanges exchanges result held.old held.new }
+{
+    held.exchanges = exchanges;
+    held.begin_query();
+    0
+}
+
 /// Sets how many exchanges each query from here on may take. What is under way is dropped.
 #[unsafe(no_mangle)]
 pub extern "C" fn delgunsai_client_exchanges(
@@ -172,10 +202,9 @@ pub extern "C" fn delgunsai_client_exchanges(
     let Some(mut held) = client.take(alloc) else {
         return Failure::NoClient.code();
     };
-    held.exchanges = exchanges;
-    held.begin_query();
+    let told = set_exchanges(&mut held, exchanges);
     client.put(held);
-    0
+    told
 }
 
 /// Begins the check whether the file is still the same, over a connection of its own. The number says whether there is one.
