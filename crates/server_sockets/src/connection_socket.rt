@@ -14,12 +14,14 @@ use mio::net::TcpStream;
 use server_connections::Connections;
 use std::io;
 use std::io::{ErrorKind, IoSlice, Read, Write};
+use std::net::SocketAddr;
 
-/// The socket of a connection, with the connection's number.
+/// The socket of a connection, with the connection's number and the address of its client.
 #[derive(Drop)]
 pub struct ConnectionSocket {
     pub number: u64,
     pub stream: TcpStream,
+    pub client: SocketAddr,
 }
 
 /// Returns the error of a socket for which memory is short.
