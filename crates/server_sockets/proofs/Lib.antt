@@ -4,3 +4,4 @@ pub mod PlaceLemmas
 pub mod RefusalLemmas
 pub mod RunLemmas
 pub mod TurnLemmas
+pub mod WriteLemmas

@@ -1,0 +1,37 @@
+-- Bytes that are written: the front of those that wait.
+use Rattle.std.proofs.Common.{◌≡◌, ◌∙◌, ◌+◌, ◌++◌, ◌≤◌, ℕ, List, [], Option, None, Some, Result, Ok, Err, ap, append_assoc, length, subst, sym, take, drop, take-append-drop}
+use Rattle.std.specs.Io.{WritesAtMost}
+use Rattle.std.specs.Io.KnownBytes.{Appends, Keeps, WriteAppends}
+use Rattle.std.proofs.lemmas.List.{append-nil, take-append-le, take_all}
+
+-- a part of a front is a part of the whole
+part_of : (n : ℕ) (front rest whole : List ℕ) → front ++ rest ≡ whole → n ≤ length front → take n front ≡ take n whole
+part_of n front rest whole is few = sym (take-append-le n front rest few) ∙ ap (take n) is
+
+-- so is what is written of it
+written_of : {E : Type 0} (old new : Option (List ℕ)) (r : Result ℕ E) (front rest whole : List ℕ) → front ++ rest ≡ whole → WritesAtMost r front
+    → WriteAppends old new r front → WriteAppends old new r whole
+written_of old new (Ok n) front rest whole is few written = subst (Appends old new) (part_of n front rest whole is few) written
+written_of old new (Err e) front rest whole is few written = written
+
+-- the front of a head alone
+pub of_head : {E : Type 0} (old new : Option (List ℕ)) (r : Result ℕ E) (a : ℕ) (head body : List ℕ) → WritesAtMost r (take a head)
+    → WriteAppends old new r (take a head) → WriteAppends old new r (head ++ body)
+of_head old new r a head body few written =
+    written_of old new r (take a head) (drop a head ++ body) (head ++ body)
+    (sym (append_assoc (take a head) (drop a head) body) ∙ ap (λ h. h ++ body) (take-append-drop a head)) few written
+
+-- a head, and the front of a body
+pub of_both : {E : Type 0} (old new : Option (List ℕ)) (r : Result ℕ E) (a b : ℕ) (head body : List ℕ) → length head ≤ a
+    → WritesAtMost r (take a head ++ take b body) → WriteAppends old new r (take a head ++ take b body) → WriteAppends old new r (head ++ body)
+of_both old new r a b head body all few written =
+    written_of old new r (take a head ++ take b body) (drop b body) (head ++ body)
+    (append_assoc (take a head) (take b body) (drop b body) ∙ ap (λ rest. take a head ++ rest) (take-append-drop b body)
+    ∙ ap (λ h. h ++ body) (take_all a head all)) few written
+
+-- where none was taken nothing is written
+pub none_taken : (old new : Option (List ℕ)) (n : ℕ) (whole : List ℕ) → n ≡ 0 → Appends old new (take n whole) → Keeps old new
+none_taken None new n whole none written = tt
+none_taken (Some xs) None n whole none written = written
+none_taken (Some xs) (Some ys) n whole none written =
+    written ∙ ap (λ n. xs ++ take n whole) none ∙ append-nil xs
