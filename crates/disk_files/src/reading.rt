@@ -75,12 +75,12 @@ pub fn other_bytes<R: Read + Drop>(
         → MatchOption other (given ≡ bytes.now) (λ other. other.items ≡ take (FILE_LIMIT + 1) given)) }
 {
     let mut piece = vec![in alloc; 0u8; PIECE]?;
-    let Some(Difference { same, other }) = first_difference(&mut reader, &mut piece, bytes)? else {
+    let Some(found) = first_difference(&mut reader, &mut piece, bytes)? else {
         return Ok(None);
     };
     let mut all = Vec::new(alloc);
-    all.extend_from_slice(&bytes[..same])?;
-    all.extend_from_slice(&piece[..other])?;
+    all.extend_from_slice(&bytes[..found.same])?;
+    all.extend_from_slice(&piece[..found.other])?;
     reader
         .take(ENOUGH.saturating_sub(all.len() as u64))
         .read_to_end(&mut all)?;

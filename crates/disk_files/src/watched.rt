@@ -1,7 +1,6 @@
 //! A file of the disk that is published, and when it has to be read again.
 ghost use Rattle.std.specs.Prelude.{◌≡◌, ◌≤◌, ◌+◌, ◌-◌, ◌↔◌, ◌⊎◌, ℕ, List, IfErr, IfOk, IfSome, IsSome, IsSomeAnd, IsTrue, MatchOption, None, OnErr, OnOk, Some, length, take};
 ghost use Rattle.std.specs.Duration.{as_nanos};
-ghost use Rattle.std.specs.Option.{option_copied};
 ghost use Rattle.std.specs.Fs.{file_type, metadata_len};
 ghost use Rattle.std.specs.Fs.{IsFile as IsPlainFile};
 ghost use Rattle.http_range.specs.Book.{published};
@@ -110,18 +109,15 @@ fn unpublished_bytes<F: Read + Drop>(
     alloc: Global,
     published: Option<&[u8]>,
     file: F,
-) -> Result<Option<Vec<u8>>, WatchError>
+) -> io::Result<Option<Vec<u8>>>
     ensures given { IfOk result (λ bytes. (given : List ℕ) → F.remaining file ≡ Some given
-        → MatchOption bytes (option_copied published.entry ≡ Some given) (λ bytes. bytes.items ≡ take (FILE_LIMIT + 1) given)) }
+        → MatchOption bytes (IsSomeAnd published.entry (λ old. given ≡ old.now)) (λ bytes. bytes.items ≡ take (FILE_LIMIT + 1) given)) }
     ensures first { published.entry ≡ None → IfOk result IsSome }
-    ensures refused { (s : ServerState) (name : List ℕ) → IfErr result (IsRefusedBy s name) }
-    ensures err { IfErr result MayPass }
 {
-    let bytes = match published {
+    match published {
         Some(published) => other_bytes(alloc, file, published),
-        None => enough_of(alloc, file).map(Some),
-    };
-    bytes.map_err(WatchError::CantRead)
+        None => Ok(Some(enough_of(alloc, file)?)),
+    }
 }
 
 /// Publishes a file, unless the one under its name has the same bytes.
@@ -234,7 +230,9 @@ impl<'a> Watched<'a> {
         ensures name { self.new.name ≡ self.old.name }
         ensures path { self.new.path ≡ self.old.path }
     {
-        let Some(bytes) = unpublished_bytes(alloc, server.file(self.name.as_bytes()), file)? else {
+        let published = server.file(self.name.as_bytes());
+        let bytes = unpublished_bytes(alloc, published, file).map_err(WatchError::CantRead)?;
+        let Some(bytes) = bytes else {
             self.seen = seen;
             return Ok(None);
         };

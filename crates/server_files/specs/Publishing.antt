@@ -1,10 +1,9 @@
 -- What a server has after files of the disk were published.
-use Rattle.std.specs.Prelude.{◌≡◌, ◌≢◌, ◌⊎◌, ℕ, List, [], ◌∷◌, map, All, Contains, IsSome, Option, ⊤}
+use Rattle.std.specs.Prelude.{◌≡◌, ◌≢◌, ◌⊎◌, ℕ, List, [], ◌∷◌, map, All, Contains, IsSome}
 use Rattle.http_range.specs.Book.{published}
 use Rattle.cog_server.specs.Server.{ServerState}
 use Rattle.disk_files.specs.declared.watched.Watched.{Watched}
-use Rattle.disk_files.specs.Published.{HasOther, IsOfFile, IsPublished}
-use Rattle.disk_files.specs.Watching.{seen_of}
+use Rattle.disk_files.specs.Published.{HasOther, IsPublished}
 
 -- the names of the files
 abbrev pub names : List Watched → List (List ℕ)
@@ -28,15 +27,6 @@ abbrev pub ArePublishedAnew : List (List ℕ) → ServerState → ServerState �
 ArePublishedAnew [] s t = t ≡ s
 ArePublishedAnew (name ∷ names) s t =
     (mid : ServerState) × MayBePublished name s mid × (Contains names name → mid ≡ s) × ArePublishedAnew names mid t
-
--- a file was looked at: it isn't read where something is remembered of it, and otherwise what is published is what an open file gave
-abbrev pub IsTaken : {F : Type 0} (gives : F → Option (List ℕ)) → Watched → ServerState → Type 0
-IsTaken gives file s = IsSome (seen_of file) ⊎ IsOfFile gives file.name.now s
-
--- so was each of the files, but one whose name another behind it has
-abbrev pub AreTaken : {F : Type 0} (gives : F → Option (List ℕ)) → List Watched → ServerState → Type 0
-AreTaken gives [] s = ⊤
-AreTaken gives (file ∷ files) s = (Contains (names files) file.name.now ⊎ IsTaken gives file s) × AreTaken gives files s
 
 -- under every name but this one the server has what it had
 abbrev pub KeepsOthers : List ℕ → ServerState → ServerState → Type 0

@@ -1,7 +1,7 @@
 //! The files that are published, and those that are published anew.
 ghost use Rattle.std.specs.Prelude.{◌≡◌, ◌↔◌, ℕ, List, All, Contains, IsTrue, OnOk};
 ghost use Rattle.disk_files.specs.Published.{IsPublished};
-ghost use Rattle.server_files.specs.Publishing.{ArePublished, ArePublishedAnew, AreTaken, IsServed, IsTaken, KeepsOthers, KeepsOthersThan, MayBePublished, names};
+ghost use Rattle.server_files.specs.Publishing.{ArePublished, ArePublishedAnew, IsServed, KeepsOthers, KeepsOthersThan, MayBePublished, names};
 
 use crate::access_log::AccessLog;
 use crate::clock::moment;
@@ -65,14 +65,12 @@ fn is_name_of_one(name: &str, files: &[Watched<'_>]) -> bool
     false
 }
 
-/// Publishes a file if its bytes changed, and prints a line of it. A line that can't be written is lost. Returns whether the file is taken:
-/// it could be read, and isn't refused, or didn't have to be read.
+/// Publishes a file if its bytes changed, and prints a line of it. A line that can't be written is lost.
 fn look_at<R: Files + Clock + Print + Eprint + AllocGlobal>(
     log: &AccessLog<'_, R>,
     server: &mut Server,
     file: &mut Watched<'_>,
-) -> bool
-    ensures taken { result ≡ true → IsTaken R.File.remaining file.old server.new }
+)
     ensures anew { MayBePublished file.old.name.now server.old server.new }
     ensures others { KeepsOthers file.old.name.now server.old server.new }
     ensures name { file.new.name ≡ file.old.name }
@@ -81,32 +79,25 @@ fn look_at<R: Files + Clock + Print + Eprint + AllocGlobal>(
     match file.publish_changed(log.rt, server, moment(log.rt)) {
         Ok(Some(tag)) => {
             let _ = print_published(log.rt, file.name, &tag);
-            true
         }
-        Ok(None) => true,
-        Err(why) => {
-            log.print(NotPublished::new(file, why));
-            false
-        }
+        Ok(None) => {}
+        Err(why) => log.print(NotPublished::new(file, why)),
     }
 }
 
-/// Publishes the files whose bytes changed. Of several files of one name, the last is looked at. Returns whether each of these is taken.
+/// Publishes the files whose bytes changed. Of several files of one name, the last is looked at.
 pub fn look_again<R: Files + Clock + Print + Eprint + AllocGlobal>(
     log: &AccessLog<'_, R>,
     server: &mut Server,
     files: &mut [Watched<'_>],
-) -> bool
-    ensures taken { result ≡ true → AreTaken R.File.remaining files.old server.new }
+)
     ensures anew { ArePublishedAnew (names files.old) server.old server.new }
     ensures others { KeepsOthersThan (names files.old) server.old server.new }
     ensures names { names files.new ≡ names files.old }
 {
-    let mut are_taken = true;
     for k in 0..files.len() {
         if !is_name_of_one(files[k].name, &files[k + 1..]) {
-            are_taken &= look_at(log, server, &mut files[k]);
+            look_at(log, server, &mut files[k]);
         }
     }
-    are_taken
 }

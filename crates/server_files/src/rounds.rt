@@ -1,8 +1,7 @@
 //! Serving: round by round, as connections come and are ready.
-ghost use Rattle.std.specs.Prelude.{◌≡◌, ◌≤◌, ℕ, [], IfOk, OnOk, max};
+ghost use Rattle.std.specs.Prelude.{◌≡◌, ◌≤◌, ℕ, [], OnOk, max};
 ghost use Rattle.cog_server.specs.Service.{added_of};
-ghost use Rattle.server_files.specs.Publishing.{ArePublishedAnew, AreTaken, KeepsOthersThan, names};
-ghost use Rattle.server_files.specs.declared.rounds.Look.TheVariants.{AllTaken, NoneCame};
+ghost use Rattle.server_files.specs.Publishing.{KeepsOthersThan, names};
 ghost use Rattle.server_sockets.specs.Going.{AllWentOnOrStart};
 ghost use Rattle.server_sockets.specs.Places.{accepted_of, limits_of, places_of};
 
@@ -61,17 +60,6 @@ fn print_served<R: Print>(rt: &R, printed: u32, ended: u32) -> u32
     printed.max(ended)
 }
 
-/// What a round found of the files.
-#[derive(Clone, Copy)]
-enum Look {
-    /// No connection came, so that none was looked at.
-    NoneCame,
-    /// Each is taken: it could be read, and isn't refused, or didn't have to be read.
-    AllTaken,
-    /// One isn't taken, and keeps its old publication.
-    OneMissing,
-}
-
 /// Serves each connection that is ready, accepts new ones, and looks at the files where one came. Serves first, so that each connection
 /// that the last wait reported has its turn before an idle one is closed.
 #[tactic(auto, using(crate::proofs::RoundLemmas::went_or_started))]
@@ -81,11 +69,7 @@ fn round<R: Files + Clock + Print + Eprint + AllocGlobal>(
     files: &mut [Watched<'_>],
     serving: &mut Serving,
     additions: Additions<'_>,
-) -> Result<Look, ServeFilesError<'static>>
-    // The files are looked at where a connection came, and only then.
-    ensures anew { OnOk result (ArePublishedAnew (names files.old) server.old server.new) }
-    ensures taken { IfOk result (λ look. look ≡ AllTaken → AreTaken R.File.remaining files.old server.new) }
-    ensures none { IfOk result (λ look. look ≡ NoneCame → (accepted_of serving.new ≡ accepted_of serving.old) × (server.new ≡ server.old)) }
+) -> Result<(), ServeFilesError<'static>>
     // Who has a place had it, and went on from there by events of its own, or starts now. Each answer is from what was published before,
     // with what is added.
     ensures went { (now : ℕ) × AllWentOnOrStart (record { catalogue = server.old.catalogue; added = added_of additions.entry }) now
@@ -97,13 +81,10 @@ fn round<R: Files + Clock + Print + Eprint + AllocGlobal>(
     let now = moment(log.rt);
     let service = Service::new(server, additions);
     serving.turns(&service, now, log);
-    if serving.accept(now)? == 0 {
-        Ok(Look::NoneCame)
-    } else if look_again(log, server, files) {
-        Ok(Look::AllTaken)
-    } else {
-        Ok(Look::OneMissing)
+    if serving.accept(now)? > 0 {
+        look_again(log, server, files);
     }
+    Ok(())
 }
 
 /// Serves in rounds until all connections were accepted, and each has ended. Fails with `CantWait` after 2^64 - 1 rounds.

@@ -22,12 +22,13 @@ of_head old new r a head body few written =
     (sym (append_assoc (take a head) (drop a head) body) ∙ ap (λ h. h ++ body) (take-append-drop a head)) few written
 
 -- a head, and the front of a body
-pub of_both : {E : Type 0} (old new : Option (List ℕ)) (r : Result ℕ E) (a b : ℕ) (head body : List ℕ) → length head ≤ a
-    → WritesAtMost r (take a head ++ take b body) → WriteAppends old new r (take a head ++ take b body) → WriteAppends old new r (head ++ body)
-of_both old new r a b head body all few written =
-    written_of old new r (take a head ++ take b body) (drop b body) (head ++ body)
-    (append_assoc (take a head) (take b body) (drop b body) ∙ ap (λ rest. take a head ++ rest) (take-append-drop b body)
-    ∙ ap (λ h. h ++ body) (take_all a head all)) few written
+pub of_both : {E : Type 0} (old new : Option (List ℕ)) (r : Result ℕ E) (a b : ℕ) (head body first second : List ℕ) → first ≡ take a head → second ≡ take b body
+    → length head ≤ a → WritesAtMost r (first ++ (second ++ [])) → WriteAppends old new r (first ++ (second ++ [])) → WriteAppends old new r (head ++ body)
+of_both old new r a b head body first second is_head is_body all few written =
+    written_of old new r (first ++ (second ++ [])) (drop b body) (head ++ body)
+    (ap (λ l. (first ++ l) ++ drop b body) (append-nil second) ∙ append_assoc first second (drop b body)
+    ∙ ap (λ l. first ++ (l ++ drop b body)) is_body ∙ ap (λ l. first ++ l) (take-append-drop b body)
+    ∙ ap (λ h. h ++ body) (is_head ∙ take_all a head all)) few written
 
 -- where none was taken nothing is written
 pub none_taken : (old new : Option (List ℕ)) (n : ℕ) (whole : List ℕ) → n ≡ 0 → Appends old new (take n whole) → Keeps old new

@@ -62,10 +62,9 @@ fn write_parts<W: WriteSlices>(
     let head = &head[..head.len().min(most)];
     let body = &body[..body.len().min(most - head.len())];
     if body.is_empty() {
-        writer.write(head)
-    } else {
-        writer.write_slices(&[IoSlice::new(head), IoSlice::new(body)])
+        return writer.write(head);
     }
+    writer.write_slices(&[IoSlice::new(head), IoSlice::new(body)])
 }
 
 /// Writes at most `most` bytes of what waits on a connection at moment `now`, and returns how many were written. Where it fails, the socket

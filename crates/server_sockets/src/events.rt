@@ -1,6 +1,5 @@
 //! The events of a wait.
-ghost use Rattle.std.specs.Prelude.{◌≡◌, ◌≢◌, ◌↔◌, ◌≤◌, ℕ, Contains, None, Some, true};
-ghost use Rattle.mio.specs.Events.{items};
+ghost use Rattle.std.specs.Prelude.{◌≡◌, ◌≤◌, ℕ, None, Some};
 ghost use Rattle.server_connections.specs.Table.{timed_at};
 ghost use Rattle.server_connections.specs.declared.timed.Timed.{Timed};
 
@@ -22,10 +21,6 @@ pub fn note(
         → timed_at k open_connections.new.connections.table.entries ≡ None }
     ensures same { (k : ℕ) (p : Timed) → timed_at k open_connections.new.connections.table.entries ≡ Some p
         → timed_at k open_connections.old.connections.table.entries ≡ Some p }
-    // A connection in the listen backlog is heard of, and of the others that the wait reported each is queued or gone.
-    ensures heard { (result ≡ true) ↔ Contains (tokens_of (items events.now)) LISTENER }
-    ensures noted { (k : ℕ) → Contains (tokens_of (items events.now)) (token_of k) → k ≢ LISTENER.0
-        → IsNoted k open_connections.old open_connections.new ready.new.items }
     ensures ended { open_connections.old.ended ≤ open_connections.new.ended }
     ensures cap { open_connections.new.connections.table.cap ≡ open_connections.old.connections.table.cap }
 {
