@@ -53,14 +53,15 @@ cut enough front left =
     ]
 
 -- what came as expected, the piece behind it, and what is read then up to a limit, is what is given up to there
-pub other_read : (known after : Option (List ℕ)) (o : Option Difference) (found : Difference) (expected piece first second all given : List ℕ) (limit enough : ℕ)
+pub other_read : (known after left : Option (List ℕ)) (o : Option Difference) (found : Difference) (expected piece first second all given : List ℕ) (limit enough : ℕ)
     → known ≡ Some given → IfSome o (λ found. IsDifference known after expected piece found) → o ≡ Some found
-    → first ≡ take found.same expected → second ≡ first ++ take found.other piece
-    → IfSome (option_map (take limit) after) (λ xs. all ≡ second ++ xs) → limit ≡ enough - length second → take enough all ≡ take enough given
-other_read known after o found expected piece first second all given limit enough is difference there head front read rest =
+    → first ≡ take found.same expected → second ≡ first ++ take found.other piece → left ≡ after
+    → IfSome (option_map (take limit) left) (λ xs. all ≡ second ++ xs) → limit ≡ enough - length second → take enough all ≡ take enough given
+other_read known after left o found expected piece first second all given limit enough is difference there head front same read rest =
     let d : IsDifference known after expected piece found = subst (λ o. IfSome o (λ found. IsDifference known after expected piece found)) there difference in
     let both : take found.same expected ++ take found.other piece ≡ second = ap (λ h. h ++ take found.other piece) (sym head) ∙ sym front in
-    by after (subst (λ k. Consumes k after second) is (subst (Consumes known after) both d.came)) read
+    by after (subst (λ k. Consumes k after second) is (subst (Consumes known after) both d.came))
+    (subst (λ l. IfSome (option_map (take limit) l) (λ xs. all ≡ second ++ xs)) same read)
   where
     by : (after : Option (List ℕ)) → Consumes (Some given) after second → IfSome (option_map (take limit) after) (λ xs. all ≡ second ++ xs)
         → take enough all ≡ take enough given

@@ -1,8 +1,8 @@
 -- Bytes that are written: the front of those that wait.
-use Rattle.std.proofs.Common.{◌≡◌, ◌∙◌, ◌+◌, ◌++◌, ◌≤◌, ℕ, List, [], Option, None, Some, Result, Ok, Err, ap, append_assoc, length, subst, sym, take, drop, take-append-drop}
+use Rattle.std.proofs.Common.{◌≡◌, ◌≢◌, ◌∙◌, ◌+◌, ◌-◌, ◌++◌, ◌≤◌, arith, min, ℕ, List, [], Option, None, Some, Result, Ok, Err, ap, append_assoc, length, subst, sym, take, drop, take-append-drop}
 use Rattle.std.specs.Io.{WritesAtMost}
 use Rattle.std.specs.Io.KnownBytes.{Appends, Keeps, WriteAppends}
-use Rattle.std.proofs.lemmas.List.{append-nil, take-append-le, take_all}
+use Rattle.std.proofs.lemmas.List.{append-nil, length-take, take-append-le, take_all}
 
 -- a part of a front is a part of the whole
 part_of : (n : ℕ) (front rest whole : List ℕ) → front ++ rest ≡ whole → n ≤ length front → take n front ≡ take n whole
@@ -29,6 +29,11 @@ of_both old new r a b head body first second is_head is_body all few written =
     (ap (λ l. (first ++ l) ++ drop b body) (append-nil second) ∙ append_assoc first second (drop b body)
     ∙ ap (λ l. first ++ (l ++ drop b body)) is_body ∙ ap (λ l. first ++ l) (take-append-drop b body)
     ∙ ap (λ h. h ++ body) (is_head ∙ take_all a head all)) few written
+
+-- where some of a body fits, all of the head before it does
+pub head_fits : (most a b : ℕ) (head body : List ℕ) → a ≡ min (length head) most → b ≡ min (length body) (most - length (take a head))
+    → length (take b body) ≢ 0 → length head ≤ a
+head_fits most a b head body is_a is_b some = omega (arith, length-take a head, length-take b body)
 
 -- where none was taken nothing is written
 pub none_taken : (old new : Option (List ℕ)) (n : ℕ) (whole : List ℕ) → n ≡ 0 → Appends old new (take n whole) → Keeps old new

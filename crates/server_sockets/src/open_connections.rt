@@ -154,9 +154,9 @@ impl OpenConnections {
         self.connections.frees_at(server, patience)
     }
 
-    /// Adds the connection of `stream`, which starts at moment `now`. `client` is the address of its client. Where the system or memory has
-    /// no room for it, it ends at once.
-    pub fn add(&mut self, poll: &Poll, stream: TcpStream, client: SocketAddr, now: u64)
+    /// Adds the connection of `newcomer`, a socket with the address of its client, which starts at moment `now`. Where the system or memory
+    /// has no room for it, it ends at once.
+    pub fn add(&mut self, poll: &Poll, newcomer: (TcpStream, SocketAddr), now: u64)
         ensures others { OthersStay self.old.connections.next self.old.connections.table.entries self.new.connections.table.entries }
         ensures kept { (k : ℕ) (p : Timed) → timed_at k self.old.connections.table.entries ≡ Some p
             → timed_at k self.new.connections.table.entries ≡ Some p }
@@ -168,25 +168,24 @@ impl OpenConnections {
             ⊎ ((self.old.ended + 1 < 2 ^ 32 → self.new.ended ≡ self.old.ended + 1)
             × ((k : ℕ) → timed_at k self.new.connections.table.entries ≡ timed_at k self.old.connections.table.entries)) }
         // It is of this client, doesn't drain, and its first turn isn't queued yet.
-        ensures fresh { IsFresh client self.old.connections.next self.new
+        ensures fresh { IsFresh newcomer.1 self.old.connections.next self.new
             ⊎ ((k : ℕ) → timed_at k self.new.connections.table.entries ≡ timed_at k self.old.connections.table.entries) }
     {
-        if self.try_add(poll, stream, client, now).is_err() {
+        if self.try_add(poll, newcomer, now).is_err() {
             self.ended = self.ended.saturating_add(1);
         }
     }
 
-    /// Adds the connection of `stream`, which starts at moment `now`. Where that fails, no slot is taken.
+    /// Adds the connection of `newcomer`, which starts at moment `now`. Where that fails, no slot is taken.
     fn try_add(
         &mut self,
         poll: &Poll,
-        mut stream: TcpStream,
-        client: SocketAddr,
+        newcomer: (TcpStream, SocketAddr),
         now: u64,
     ) -> io::Result<()>
         ensures ended { self.new.ended ≡ self.old.ended }
         ensures added { OnOk result (HasStartedAt self.old.connections.next now self.new.connections.table.entries) }
-        ensures fresh { OnOk result (IsFresh client self.old.connections.next self.new) }
+        ensures fresh { OnOk result (IsFresh newcomer.1 self.old.connections.next self.new) }
         ensures err { OnErr result ((k : ℕ)
             → timed_at k self.new.connections.table.entries ≡ timed_at k self.old.connections.table.entries) }
         ensures others { OthersStay self.old.connections.next self.old.connections.table.entries self.new.connections.table.entries }
@@ -199,6 +198,7 @@ impl OpenConnections {
         if !has_place(&self.connections) {
             return Err(io::Error::from(io::ErrorKind::Other));
         }
+        let (mut stream, client) = newcomer;
         stream.set_nodelay(true)?;
         let Ok(number) = self.connections.accept(now) else {
             return Err(io::Error::from(io::ErrorKind::OutOfMemory));
