@@ -47,7 +47,8 @@ fn first_difference<R: Read>(
 ) -> io::Result<Option<Difference>>
     requires { 0 < length piece.old }
     ensures just { IfOk result (λ found. found ≡ None → (given : List ℕ) → R.remaining reader.old ≡ Some given → given ≡ bytes.now) }
-    ensures other { IfOk result (λ found. IfSome found (IsDifference (R.remaining reader.old) (R.remaining reader.new) bytes.now piece.new)) }
+    ensures other { IfOk result (λ found. IfSome found
+        (IsDifference (R.remaining reader.old) (R.remaining reader.new) bytes.now piece.new)) }
 {
     let mut rest = bytes;
     for _ in 0..=bytes.len() {

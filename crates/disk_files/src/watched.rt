@@ -288,7 +288,8 @@ impl<'a> Watched<'a> {
         ensures err { OnErr result (server.new ≡ server.old) }
         ensures refused { IfErr result (IsRefusedBy server.old self.old.name.now) }
 
-        // What is published is what an open file gave, unless no file was read: not where nothing is remembered, nor where a comparison is due.
+        // What is published is what an open file gave, unless none was read. One is read where nothing is remembered of it, and where a
+        // comparison is due.
         ensures given { IfOk result (λ tag. ((tag ≡ None) × IsUnread now self.old self.new)
             ⊎ IsOfFile R.File.remaining self.old.name.now server.new) }
 

@@ -49,8 +49,8 @@ impl fmt::Display for EscapedBytes<'_> {
     }
 }
 
-/// The line of an answer, after its client. It has the connection, the method, the target and the Range of the request, the status code, and the length
-/// of the body.
+/// The line of an answer, after its client. It has the connection, the method, the target and the Range of the request, the status code,
+/// and the length of the body.
 #[derive(Drop)]
 pub struct AnswerLine<'m> {
     /// The message that is answered, or `None` where it wasn't kept.

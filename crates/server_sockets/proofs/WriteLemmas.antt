@@ -1,7 +1,7 @@
 -- Bytes that are written: the front of those that wait.
-use Rattle.std.proofs.Common.{◌≡◌, ◌≢◌, ◌∙◌, ◌+◌, ◌-◌, ◌++◌, ◌≤◌, arith, min, ℕ, List, [], Option, None, Some, Result, Ok, Err, ap, append_assoc, length, subst, sym, take, drop, take-append-drop}
+use Rattle.std.proofs.Common.{◌≡◌, ◌≢◌, ◌∙◌, ◌-◌, ◌++◌, ◌≤◌, arith, min, ℕ, List, [], Option, Result, Ok, Err, ap, append_assoc, length, subst, sym, take, drop, take-append-drop}
 use Rattle.std.specs.Io.{WritesAtMost}
-use Rattle.std.specs.Io.KnownBytes.{Appends, Keeps, WriteAppends}
+use Rattle.std.specs.Io.KnownBytes.{Appends, WriteAppends}
 use Rattle.std.proofs.lemmas.List.{append-nil, length-take, take-append-le, take_all}
 
 -- a part of a front is a part of the whole
@@ -34,10 +34,3 @@ of_both old new r a b head body first second is_head is_body all few written =
 pub head_fits : (most a b : ℕ) (head body : List ℕ) → a ≡ min (length head) most → b ≡ min (length body) (most - length (take a head))
     → length (take b body) ≢ 0 → length head ≤ a
 head_fits most a b head body is_a is_b some = omega (arith, length-take a head, length-take b body)
-
--- where none was taken nothing is written
-pub none_taken : (old new : Option (List ℕ)) (n : ℕ) (whole : List ℕ) → n ≡ 0 → Appends old new (take n whole) → Keeps old new
-none_taken None new n whole none written = tt
-none_taken (Some xs) None n whole none written = written
-none_taken (Some xs) (Some ys) n whole none written =
-    written ∙ ap (λ n. xs ++ take n whole) none ∙ append-nil xs
