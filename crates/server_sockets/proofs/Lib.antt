@@ -1,3 +1,4 @@
+pub mod EventLemmas
 pub mod GoingLemmas
 pub mod PlacesLemmas
 pub mod PlaceLemmas
