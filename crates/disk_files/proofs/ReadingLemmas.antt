@@ -1,12 +1,14 @@
 -- A text that is compared with what is given, piece by piece.
-use Rattle.std.proofs.Common.{◌≡◌, ◌≢◌, ◌++◌, ◌∙◌, Bool, Err, IfOk, IfSome, Ok, Result, [], ap, drop, false, length, List, None, ℕ, nat_eq, Option, Some, subst, sym, take, take-append-drop, true}
-use Rattle.std.proofs.lemmas.Bool.{false≢true}
-use Rattle.std.proofs.lemmas.List.{append_cancel_left}
+use Rattle.std.proofs.Common.{◌≡◌, ◌≢◌, ◌++◌, ◌+◌, ◌-◌, ◌≤◌, ◌<◌, ◌∙◌, arith, inl, inr, Bool, Err, IfOk, IfSome, Ok, Result, [], ap, drop, false, length, List, None, ℕ, nat_eq, Option, Some, subst, sym, take, take-append-drop, true}
+use Rattle.std.proofs.lemmas.Bool.{cases_lt, false≢true}
+use Rattle.std.proofs.lemmas.List.{append_cancel_left, length-take, take-append-le, take_all}
+use Rattle.std.proofs.Math.Seq.{take-append-add}
 use Rattle.std.specs.Cmp.Lexicographic.{other_text, pointwise, same_text}
 use Rattle.std.specs.Io.KnownBytes.{Consumes}
 use Rattle.std.specs.Option.{option_map}
 use Rattle.std.specs.Prelude.{◌↔◌, IsSome, IsTrue}
-use Rattle.disk_files.specs.Given.{GivesAlways}
+use Rattle.disk_files.specs.Given.{IsDifference}
+use Rattle.disk_files.specs.declared.reading.Difference.{Difference}
 use lib.Seq.{take-append_seam}
 
 -- a text that begins with a piece is the piece and what is behind it
@@ -38,18 +40,31 @@ front known limit most given old new is same empty read =
     let here : new ≡ old ++ take limit given = subst (λ o. IfSome (option_map (take limit) o) (λ xs. new ≡ old ++ xs)) is read in
     here ∙ ap (λ l. l ++ take limit given) empty ∙ ap (λ n. take n given) same
 
--- a file that is at its start gives all that it has
-pub at_start : {F : Type 0} (place : F → Option ℕ) (gives : F → Option (List ℕ)) (whole : List ℕ) → GivesAlways place gives whole → (old new : F)
-    → IfSome (place old) (λ _. place new ≡ Some 0) → gives new ≡ Some whole
-at_start place gives whole always old new moved = always.from_start new (by (place old) (always.placed old) moved)
-  where
-    by : (o : Option ℕ) → IsSome o → IfSome o (λ _. place new ≡ Some 0) → place new ≡ Some 0
-    by None known moved = absurd (false≢true known)
-    by (Some n) known moved = moved
+-- what is left of a front that is too long, and of one that isn't, where no more is read than up to the limit
+cut : (enough : ℕ) (front left : List ℕ) → take enough (front ++ take (enough - length front) left) ≡ take enough (front ++ left)
+cut enough front left =
+    elim (cases_lt enough (length front)) [
+      | inr few ↦
+          let m : ℕ = enough - length front in
+          let whole : enough ≡ length front + m = omega arith in
+          let at : (ys : List ℕ) → take enough (front ++ ys) ≡ front ++ take m ys = λ ys. ap (λ n. take n (front ++ ys)) whole ∙ take-append-add front ys m in
+          at (take m left) ∙ ap (λ l. front ++ l) (take_all m (take m left) (subst (λ n. n ≤ m) (sym (length-take m left)) (omega arith))) ∙ sym (at left)
+      | inl many ↦ take-append-le enough front _ (omega arith) ∙ sym (take-append-le enough front left (omega arith))
+    ]
 
--- what is told of the bytes that are given, of those that are always given
-pub same_told : {E : Type 0} (r : Result Bool E) (gives : Option (List ℕ)) (bytes : List ℕ) (Always : List ℕ → Type 0) → ((whole : List ℕ) → Always whole → gives ≡ Some whole)
-    → IfOk r (λ just. (given : List ℕ) → gives ≡ Some given → IsTrue just ↔ (given ≡ bytes))
-    → IfOk r (λ same. (whole : List ℕ) → Always whole → IsTrue same ↔ (whole ≡ bytes))
-same_told (Ok just) gives bytes Always known h = λ whole always. h whole (known whole always)
-same_told (Err e) gives bytes Always known h = tt
+-- what came as expected, the piece behind it, and what is read then up to a limit, is what is given up to there
+pub other_read : (known after left : Option (List ℕ)) (o : Option Difference) (found : Difference) (expected piece first second all given : List ℕ) (limit enough : ℕ)
+    → known ≡ Some given → IfSome o (λ found. IsDifference known after expected piece found) → o ≡ Some found
+    → first ≡ take found.same expected → second ≡ first ++ take found.other piece → left ≡ after
+    → IfSome (option_map (take limit) left) (λ xs. all ≡ second ++ xs) → limit ≡ enough - length second → take enough all ≡ take enough given
+other_read known after left o found expected piece first second all given limit enough is difference there head front same read rest =
+    let d : IsDifference known after expected piece found = subst (λ o. IfSome o (λ found. IsDifference known after expected piece found)) there difference in
+    let both : take found.same expected ++ take found.other piece ≡ second = ap (λ h. h ++ take found.other piece) (sym head) ∙ sym front in
+    by after (subst (λ k. Consumes k after second) is (subst (Consumes known after) both d.came))
+    (subst (λ l. IfSome (option_map (take limit) l) (λ xs. all ≡ second ++ xs)) same read)
+  where
+    by : (after : Option (List ℕ)) → Consumes (Some given) after second → IfSome (option_map (take limit) after) (λ xs. all ≡ second ++ xs)
+        → take enough all ≡ take enough given
+    by None came read = absurd came
+    by (Some left) came read =
+        ap (take enough) (read ∙ ap (λ n. second ++ take n left) rest) ∙ cut enough second left ∙ ap (take enough) (sym came)

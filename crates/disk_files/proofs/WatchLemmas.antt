@@ -1,8 +1,8 @@
 -- An error that is handed on, and what is published of bytes that were read.
-use Rattle.std.proofs.Common.{◌≡◌, ◌≤◌, ◌+◌, ◌∙◌, ℕ, List, Result, Ok, Err, Some, IfErr, IfOk, IsErrAnd, ap, arith, inl, length, subst, sym, take}
-use Rattle.std.specs.Prelude.{MatchResult}
+use Rattle.std.proofs.Common.{◌≡◌, ◌≤◌, ◌+◌, ◌∙◌, ℕ, Bor, List, Option, None, Result, Ok, Err, Some, IfErr, IfOk, IsErrAnd, ap, arith, inl, length, subst, sym, take}
+use Rattle.std.specs.Prelude.{IsSomeAnd, MatchOption, MatchResult}
 use lib.ListN.{replicate}
-use Rattle.std.specs.Option.{option_map}
+use Rattle.std.specs.Option.{option_copied, option_map}
 use Rattle.std.proofs.lemmas.List.{length-replicate, take_all}
 use Rattle.http_range.specs.Book.{Catalogue, Publication, publish, published}
 use Rattle.http_range.specs.Laws.{PublishReplaces}
@@ -47,3 +47,17 @@ pub refused_by_size : (s : ServerState) (name : List ℕ) (size : ℕ) (refusal 
     → ((t : ServerState) (file : List ℕ) → length file ≡ size → refusal_of t.count t.catalogue name file ≡ Some refusal)
     → IsRefusedBy s name (Refused refusal)
 refused_by_size s name size refusal by = (replicate size 0, inl (by s (replicate size 0) (length-replicate size 0)))
+
+-- what a match says of a value that is there
+pub at_some : {A : Type 0} (o : Option A) (x : A) (P : Type 0) (Q : A → Type 0) → o ≡ Some x → MatchOption o P Q → Q x
+at_some o x P Q is holds = subst (λ o. MatchOption o P Q) is holds
+
+-- and of none
+pub at_none : {A : Type 0} (o : Option A) (P : Type 0) (Q : A → Type 0) → o ≡ None → MatchOption o P Q → P
+at_none o P Q is holds = subst (λ o. MatchOption o P Q) is holds
+
+-- what is given is what is published, where it is found so
+pub as_found : (name key whole : List ℕ) (s : ServerState) (found : Option (Bor (List ℕ))) → key ≡ name
+    → option_copied found ≡ option_map (λ p. p.file) (published key s.catalogue) → IsSomeAnd found (λ old. whole ≡ old.now) → IsFileOf name whole s
+as_found name key whole s None same there is = absurd is
+as_found name key whole s (Some old) same there is = subst (λ n. IsFileOf n whole s) same (sym there ∙ ap (λ x. Some x) (sym is))

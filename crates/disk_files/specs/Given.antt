@@ -1,8 +1,10 @@
--- What an open file gives.
-use Rattle.std.specs.Prelude.{◌≡◌, ℕ, List, Option, Some, IsSome}
+-- What a reader gives.
+use Rattle.std.specs.Prelude.{◌≤◌, ◌++◌, ℕ, List, Option, length, take}
+use Rattle.std.specs.Io.KnownBytes.{Consumes}
+use Rattle.disk_files.specs.declared.reading.Difference.{Difference}
 
--- Each open file of a type tells its place, and from its start on each gives these bytes, whenever it is read, as where all are of one file.
--- One of the disk tells neither its place nor what it gives.
-pub record GivesAlways {F : Type 0} (place : F → Option ℕ) (gives : F → Option (List ℕ)) (whole : List ℕ) : Type 0 where
-  pub placed : (f : F) → IsSome (place f)
-  pub from_start : (f : F) → place f ≡ Some 0 → gives f ≡ Some whole
+-- as many bytes came as expected, and after them those at the front of the piece
+pub record IsDifference (old new : Option (List ℕ)) (expected piece : List ℕ) (found : Difference) : Type 0 where
+  pub same : found.same ≤ length expected
+  pub other : found.other ≤ length piece
+  pub came : Consumes old new (take found.same expected ++ take found.other piece)

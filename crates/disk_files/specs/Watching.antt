@@ -1,5 +1,5 @@
 -- Why a file of the disk isn't published, and what is remembered of it.
-use Rattle.std.specs.Prelude.{ℕ, List, Option, ⊤}
+use Rattle.std.specs.Prelude.{◌≡◌, ◌-◌, ◌<◌, ℕ, IfSome, IsSome, List, Option, ⊤}
 use Rattle.cog_server.specs.Server.{IsRefusal, ServerState, refusal_of}
 use Rattle.cog_server.specs.declared.error.PublishError.TheVariants.{Memory}
 use Rattle.disk_files.specs.declared.stamp.Stamp.{Stamp}
@@ -17,6 +17,10 @@ verify_of w = w.verify
 
 abbrev pub compared_of : Watched → ℕ
 compared_of w = w.compared
+
+-- It isn't read, and stays as it is: something is remembered of it, and no comparison of its bytes is due at this moment.
+abbrev pub IsUnread : ℕ → Watched → Watched → Type 0
+IsUnread now old new = IsSome (seen_of old) × IfSome (verify_of old) (λ millis. now - compared_of old < millis) × (new ≡ old)
 
 -- where the server refuses it, it does so by its rules for some bytes, or for want of memory where these refuse none
 abbrev pub IsRefusedBy : ServerState → List ℕ → WatchError → Type 0

@@ -1,13 +1,13 @@
 //! The bytes of a file of the disk.
-ghost use Rattle.std.specs.Prelude.{◌≡◌, ◌<◌, ◌+◌, ◌↔◌, ℕ, List, IfOk, IsTrue, Some, length, take};
+ghost use Rattle.std.specs.Prelude.{◌≡◌, ◌<◌, ◌+◌, ℕ, List, IfOk, IfSome, MatchOption, None, Some, length, take};
 ghost use Rattle.http_range.specs.declared.publication.TheConstants.{FILE_LIMIT};
-ghost use Rattle.disk_files.specs.Given.{GivesAlways};
+ghost use Rattle.disk_files.specs.Given.{IsDifference};
 
 use http_range::FILE_LIMIT;
 use std::alloc::Global;
 use std::fs::File;
 use std::io;
-use std::io::{Read, Seek};
+use std::io::Read;
 use std::rt::Files;
 
 /// One byte more than a published file may have: what comes after it isn't read.
@@ -16,8 +16,8 @@ const ENOUGH: u64 = FILE_LIMIT as u64 + 1;
 /// How many bytes are compared at once.
 const PIECE: usize = 65_536;
 
-/// What a reader gives, as far as it is enough to tell that it is too long to be published.
-fn enough_of<R: Read + Drop>(alloc: Global, reader: R) -> io::Result<Vec<u8>>
+/// Returns what a reader gives, as far as it is enough to tell that it is too long to be published.
+pub fn enough_of<R: Read + Drop>(alloc: Global, reader: R) -> io::Result<Vec<u8>>
     ensures { IfOk result (λ bytes. (given : List ℕ) → R.remaining reader ≡ Some given → bytes.items ≡ take (FILE_LIMIT + 1) given) }
 {
     let mut bytes = Vec::new(alloc);
@@ -30,40 +30,61 @@ pub fn read_file<R: Files + AllocGlobal>(rt: &R, path: &str) -> io::Result<Vec<u
     enough_of(rt.alloc(), File::open(rt, path)?)
 }
 
-/// Whether a reader gives just these bytes, and then ends. `piece` is room for what is compared at once.
-fn gives_just<R: Read>(reader: &mut R, piece: &mut [u8], bytes: &[u8]) -> io::Result<bool>
+/// Where a reader gives other bytes than expected: how many came as expected, and how many stand in the piece that came after them. None
+/// stand there where the reader has ended before.
+#[derive(Clone, Copy)]
+pub struct Difference {
+    pub same: usize,
+    pub other: usize,
+}
+
+/// Reads until a reader has given other bytes than `bytes`, or has ended. Returns `None` where it gave just `bytes`. `piece` is room for
+/// what is compared at once.
+fn first_difference<R: Read>(
+    reader: &mut R,
+    piece: &mut [u8],
+    bytes: &[u8],
+) -> io::Result<Option<Difference>>
     requires { 0 < length piece.old }
-    ensures { IfOk result (λ just. (given : List ℕ) → R.remaining reader.old ≡ Some given → IsTrue just ↔ (given ≡ bytes.now)) }
+    ensures just { IfOk result (λ found. found ≡ None → (given : List ℕ) → R.remaining reader.old ≡ Some given → given ≡ bytes.now) }
+    ensures other { IfOk result (λ found. IfSome found
+        (IsDifference (R.remaining reader.old) (R.remaining reader.new) bytes.now piece.new)) }
 {
     let mut rest = bytes;
     for _ in 0..=bytes.len() {
-        let count = reader.read(piece)?;
-        if count == 0 {
-            return Ok(rest.is_empty());
+        let other = reader.read(piece)?;
+        let same = bytes.len() - rest.len();
+        if other == 0 && rest.is_empty() {
+            return Ok(None);
         }
-        match rest.strip_prefix(&piece[..count]) {
-            Some(behind) => rest = behind,
-            None => return Ok(false),
+        match rest.strip_prefix(&piece[..other]) {
+            Some(behind) if other > 0 => rest = behind,
+            _ => return Ok(Some(Difference { same, other })),
         }
     }
-    Ok(false)
+    unreachable!()
 }
 
-/// Whether an open file has just these bytes, from its first one. No more of it is held than a piece.
-pub fn has_bytes<F: Read + Seek>(alloc: Global, file: &mut F, bytes: &[u8]) -> io::Result<bool>
-    ensures { IfOk result (λ same. (whole : List ℕ) → GivesAlways F.stream_position F.remaining whole
-        → IsTrue same ↔ (whole ≡ bytes.now)) }
+/// Returns what a reader gives, as far as it is enough to tell that it is too long to be published. Returns `None` where that is just
+/// `bytes`: then no more of it is held than a piece.
+pub fn other_bytes<R: Read + Drop>(
+    alloc: Global,
+    mut reader: R,
+    bytes: &[u8],
+) -> io::Result<Option<Vec<u8>>>
+    ensures { IfOk result (λ other. (given : List ℕ) → R.remaining reader ≡ Some given
+        → MatchOption other (given ≡ bytes.now) (λ other. other.items ≡ take (FILE_LIMIT + 1) given)) }
 {
-    file.rewind()?;
     let mut piece = vec![in alloc; 0u8; PIECE]?;
-    gives_just(file, &mut piece, bytes)
-}
-
-/// The bytes of an open file from its first one, as far as they are enough to tell that it is too large to be published.
-pub fn bytes_of<F: Read + Seek + Drop>(alloc: Global, mut file: F) -> io::Result<Vec<u8>>
-    ensures { IfOk result (λ bytes. (whole : List ℕ) → GivesAlways F.stream_position F.remaining whole
-        → bytes.items ≡ take (FILE_LIMIT + 1) whole) }
-{
-    file.rewind()?;
-    enough_of(alloc, file)
+    let Some(found) = first_difference(&mut reader, &mut piece, bytes)? else {
+        return Ok(None);
+    };
+    let mut all = Vec::new(alloc);
+    all.extend_from_slice(&bytes[..found.same])?;
+    all.extend_from_slice(&piece[..found.other])?;
+    reader
+        .take(ENOUGH.saturating_sub(all.len() as u64))
+        .read_to_end(&mut all)?;
+    all.truncate(ENOUGH as usize);
+    Ok(Some(all))
 }

@@ -1,25 +1,24 @@
 //! A file of the disk that is published, and when it has to be read again.
-ghost use Rattle.std.specs.Prelude.{◌≡◌, ◌≤◌, ◌-◌, ◌↔◌, ℕ, List, IfErr, IfOk, IfSome, IsSome, IsSomeAnd, IsTrue, None, OnErr, OnOk, Some, length};
+ghost use Rattle.std.specs.Prelude.{◌≡◌, ◌≤◌, ◌+◌, ◌-◌, ◌↔◌, ◌⊎◌, ℕ, List, IfErr, IfOk, IfSome, IsSome, IsSomeAnd, IsTrue, MatchOption, None, OnErr, OnOk, Some, length, take};
 ghost use Rattle.std.specs.Duration.{as_nanos};
 ghost use Rattle.std.specs.Fs.{file_type, metadata_len};
 ghost use Rattle.std.specs.Fs.{IsFile as IsPlainFile};
 ghost use Rattle.http_range.specs.Book.{published};
 ghost use Rattle.http_range.specs.declared.publication.TheConstants.{FILE_LIMIT};
 ghost use Rattle.cog_server.specs.Server.{IsRefusal, ServerState, refusal_of};
-ghost use Rattle.disk_files.specs.Given.{GivesAlways};
-ghost use Rattle.disk_files.specs.Published.{HasOther, IsFileOf, IsPublished};
+ghost use Rattle.disk_files.specs.Published.{HasOther, IsFileOf, IsOfFile, IsPublished};
 ghost use Rattle.disk_files.specs.Settled.{IsSettledSince};
-ghost use Rattle.disk_files.specs.Watching.{IsRefusedBy, MayPass, compared_of, seen_of, verify_of};
+ghost use Rattle.disk_files.specs.Watching.{IsRefusedBy, IsUnread, MayPass, compared_of, seen_of, verify_of};
 ghost use Rattle.disk_files.specs.declared.watched.WatchError.TheVariants.{Refused};
 
-use crate::reading::{bytes_of, has_bytes};
+use crate::reading::{enough_of, other_bytes};
 use crate::stamp::{Stamp, is_unchanged, stamp_of};
 use cog_server::{PublishError, Server};
 use http_range::{FILE_LIMIT, Tag, is_name, law_publications_replace};
 use std::alloc::Global;
 use std::fs::{self, File, Metadata, OpenFile};
 use std::io;
-use std::io::{Read, Seek};
+use std::io::Read;
 use std::rt::{Clock, Files};
 use std::time::Duration;
 use thiserror::Error;
@@ -105,6 +104,22 @@ fn refusal_by_length(name: &[u8], size: u64) -> Option<PublishError>
     }
 }
 
+/// Returns what an open file gives, or `None` where its publication, if it has one, has just these bytes.
+fn unpublished_bytes<F: Read + Drop>(
+    alloc: Global,
+    published: Option<&[u8]>,
+    file: F,
+) -> io::Result<Option<Vec<u8>>>
+    ensures given { IfOk result (λ bytes. (given : List ℕ) → F.remaining file ≡ Some given
+        → MatchOption bytes (IsSomeAnd published.entry (λ old. given ≡ old.now)) (λ bytes. bytes.items ≡ take (FILE_LIMIT + 1) given)) }
+    ensures first { published.entry ≡ None → IfOk result IsSome }
+{
+    match published {
+        Some(published) => other_bytes(alloc, file, published),
+        None => Ok(Some(enough_of(alloc, file)?)),
+    }
+}
+
 /// Publishes a file, unless the one under its name has the same bytes.
 fn publish_other(
     server: &mut Server,
@@ -165,15 +180,15 @@ impl<'a> Watched<'a> {
         }
     }
 
-    /// Publishes what an open file gives from its start on, and remembers what the disk said of it.
-    fn publish_all_of<F: Read + Seek + Drop>(
+    /// Publishes what an open file gives, and remembers what the disk said of it.
+    fn publish_all_of<F: Read + Drop>(
         &mut self,
         alloc: Global,
         server: &mut Server,
         file: F,
         seen: Option<Stamp>,
     ) -> Result<Tag, WatchError>
-        ensures has { (whole : List ℕ) → GivesAlways F.stream_position F.remaining whole → length whole ≤ FILE_LIMIT
+        ensures has { (whole : List ℕ) → F.remaining file ≡ Some whole → length whole ≤ FILE_LIMIT
             → OnOk result (IsFileOf self.old.name.now whole server.new) }
         ensures ok { IfOk result (IsPublished self.old.name.now server.old server.new) }
         ensures err { OnErr result (server.new ≡ server.old) }
@@ -183,7 +198,7 @@ impl<'a> Watched<'a> {
         ensures path { self.new.path ≡ self.old.path }
     {
         law_publications_replace();
-        let bytes = bytes_of(alloc, file).map_err(WatchError::CantRead)?;
+        let bytes = enough_of(alloc, file).map_err(WatchError::CantRead)?;
         match server.publish(self.name.as_bytes(), bytes) {
             Ok(tag) => {
                 self.seen = seen;
@@ -193,16 +208,16 @@ impl<'a> Watched<'a> {
         }
     }
 
-    /// Publishes what an open file gives from its start on, unless its publication has the same bytes, and remembers what the disk said of
-    /// it, also where the server refuses it. It isn't remembered where the reason may pass.
-    fn publish_other_of<F: Read + Seek + Drop>(
+    /// Publishes what an open file gives, unless its publication has the same bytes, and remembers what the disk said of it, also where the
+    /// server refuses it. It isn't remembered where the reason may pass.
+    fn publish_other_of<F: Read + Drop>(
         &mut self,
         alloc: Global,
         server: &mut Server,
-        mut file: F,
+        file: F,
         seen: Option<Stamp>,
     ) -> Result<Option<Tag>, WatchError>
-        ensures has { (whole : List ℕ) → GivesAlways F.stream_position F.remaining whole → length whole ≤ FILE_LIMIT
+        ensures has { (whole : List ℕ) → F.remaining file ≡ Some whole → length whole ≤ FILE_LIMIT
             → OnOk result (IsFileOf self.old.name.now whole server.new) }
         ensures ok { IfOk result (λ tag. IfSome tag (IsPublished self.old.name.now server.old server.new)) }
         ensures other { IfOk result (λ tag. IsSome tag → HasOther self.old.name.now server.old server.new) }
@@ -215,13 +230,12 @@ impl<'a> Watched<'a> {
         ensures name { self.new.name ≡ self.old.name }
         ensures path { self.new.path ≡ self.old.path }
     {
-        if let Some(old) = server.file(self.name.as_bytes())
-            && has_bytes(alloc, &mut file, old).map_err(WatchError::CantRead)?
-        {
+        let published = server.file(self.name.as_bytes());
+        let bytes = unpublished_bytes(alloc, published, file).map_err(WatchError::CantRead)?;
+        let Some(bytes) = bytes else {
             self.seen = seen;
             return Ok(None);
-        }
-        let bytes = bytes_of(alloc, file).map_err(WatchError::CantRead)?;
+        };
         match publish_other(server, self.name.as_bytes(), bytes) {
             Ok(tag) => {
                 self.seen = seen;
@@ -243,6 +257,7 @@ impl<'a> Watched<'a> {
         server: &mut Server,
     ) -> Result<Tag, WatchError>
         ensures ok { IfOk result (IsPublished self.old.name.now server.old server.new) }
+        ensures given { OnOk result (IsOfFile R.File.remaining self.old.name.now server.new) }
         ensures err { OnErr result (server.new ≡ server.old) }
         ensures refused { IfErr result (IsRefusedBy server.old self.old.name.now) }
 
@@ -272,6 +287,11 @@ impl<'a> Watched<'a> {
         ensures same { IfOk result (λ tag. tag ≡ None → server.new ≡ server.old) }
         ensures err { OnErr result (server.new ≡ server.old) }
         ensures refused { IfErr result (IsRefusedBy server.old self.old.name.now) }
+
+        // What is published is what an open file gave, unless none was read. One is read where nothing is remembered of it, and where a
+        // comparison is due.
+        ensures given { IfOk result (λ tag. ((tag ≡ None) × IsUnread now self.old self.new)
+            ⊎ IsOfFile R.File.remaining self.old.name.now server.new) }
 
         // A look at a file of which nothing is remembered, and that has no publication, publishes it or fails. What may pass leaves what is
         // remembered as it was.

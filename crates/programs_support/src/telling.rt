@@ -23,12 +23,13 @@ impl Told {
     }
 }
 
-/// The lines of a log without their times: without each first word that ends in `Z`. What isn't text is nothing.
+/// The lines of a log without their times: without each first word that ends in `Z`, and without the `-` of a line that concerns no client.
+/// What isn't text is nothing.
 pub fn without_times(alloc: Global, log: &[u8]) -> Result<String, AllocError> {
     let mut lines = String::new(alloc);
     for line in str::from_utf8(log).unwrap_or("").lines() {
         let rest = match line.split_once(' ') {
-            Some((first, rest)) if first.ends_with('Z') => rest,
+            Some((first, rest)) if first.ends_with('Z') => rest.strip_prefix("- ").unwrap_or(rest),
             _ => line,
         };
         lines.push_str(rest)?;

@@ -1,15 +1,16 @@
 //! The log of a server, on standard error.
 use crate::clock::seconds;
 use crate::error::ServeFilesError;
-use crate::lines::AnswerLine;
+use crate::lines::{AnswerLine, LogClient};
 use crate::times::LogTime;
 use server_sockets::{AnswerLog, LoggedAnswer};
 use std::fmt::Display;
 use std::io;
+use std::net::SocketAddr;
 use std::rt::Clock;
 
-/// The log of a server, on standard error. It has a line for each answer, and for each file that isn't published. A line that can't
-/// be written is lost, and the next one is tried.
+/// The log of a server, on standard error. It has a line for each answer, and for each file that isn't published. Each line begins with
+/// the time and the client's address. A line that can't be written is lost, and the next one is tried.
 #[derive(Drop)]
 pub struct AccessLog<'r, R> {
     pub rt: &'r R,
@@ -18,11 +19,17 @@ pub struct AccessLog<'r, R> {
 }
 
 impl<R: Eprint + Clock> AccessLog<'_, R> {
-    /// Prints the time and `entry` as a line on standard error, where a log is kept.
+    /// Prints `entry`, which concerns no client, as a line on standard error, where a log is kept.
     pub fn print<D: Display + Drop>(&self, entry: D) {
+        self.print_of(None, entry);
+    }
+
+    /// Prints the time, the address of `client` and `entry` as a line on standard error, where a log is kept.
+    fn print_of<D: Display + Drop>(&self, client: Option<SocketAddr>, entry: D) {
         if self.is_kept {
             let now = LogTime(seconds(self.rt));
-            let _ = eprintln!(self.rt; "{now} cogserve: {entry}");
+            let client = LogClient(client);
+            let _ = eprintln!(self.rt; "{now} {client} cogserve: {entry}");
         }
     }
 }
@@ -51,6 +58,6 @@ impl<R: Eprint + Clock> AnswerLog for AccessLog<'_, R> {
     }
 
     fn note_answer(&mut self, message: Option<&[u8]>, answer: LoggedAnswer) {
-        self.print(AnswerLine { message, answer });
+        self.print_of(Some(answer.client), AnswerLine { message, answer });
     }
 }

@@ -1,4 +1,7 @@
 //! The lines of the log.
+ghost use Rattle.std.specs.Prelude.{Some};
+ghost use Rattle.server_files.specs.Lines.{client_text};
+
 use http_range::{Request, read_request};
 use server_sockets::LoggedAnswer;
 use std::fmt;
@@ -11,6 +14,21 @@ pub struct Listening(pub SocketAddr);
 impl fmt::Display for Listening {
     fn fmt<W: fmt::Write>(&self, f: &mut fmt::Formatter<W>) -> fmt::Result {
         write!(f, "listening at {}", self.0)
+    }
+}
+
+/// The address of the client that a line concerns, as `1.2.3.4:5678` or `[::1]:5678`, or `-` where it concerns none.
+#[derive(Clone, Copy)]
+pub struct LogClient(pub Option<SocketAddr>);
+
+impl fmt::Display for LogClient {
+    ghost output = { λ client. Some (client_text client.0) };
+
+    fn fmt<W: fmt::Write>(&self, f: &mut fmt::Formatter<W>) -> fmt::Result {
+        match &self.0 {
+            Some(address) => fmt::Display::fmt(address, f),
+            None => f.write_str("-"),
+        }
     }
 }
 
@@ -31,8 +49,8 @@ impl fmt::Display for EscapedBytes<'_> {
     }
 }
 
-/// The line of an answer. It has the connection, the method, the target and the Range of the request, the status code, and the length
-/// of the body.
+/// The line of an answer, after its client. It has the connection, the method, the target and the Range of the request, the status code,
+/// and the length of the body.
 #[derive(Drop)]
 pub struct AnswerLine<'m> {
     /// The message that is answered, or `None` where it wasn't kept.

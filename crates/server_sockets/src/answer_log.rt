@@ -1,15 +1,19 @@
 //! A log of the answers on connections, each with the message that it answers.
-ghost use Rattle.std.specs.Prelude.{◌≡◌};
+ghost use Rattle.std.specs.Prelude.{◌≡◌, ◌+◌, ◌≤◌, length, min};
 
+use crate::connection_socket::ConnectionSocket;
 use http_range::{law_messages_stay, message_length};
-use server_connections::Connections;
+use server_connections::{Connections, Timed};
 use std::alloc::Global;
+use std::net::SocketAddr;
 
 /// An answer on a connection.
 #[derive(Clone, Copy, Debug, PartialEq, Eq)]
 pub struct LoggedAnswer {
     /// The number of the connection, from 1 on.
     pub connection: u64,
+    /// The address of the client, as the system gave it when the connection was accepted.
+    pub client: SocketAddr,
     /// The status code.
     pub status: u16,
     /// The length of the body in bytes.
@@ -96,34 +100,44 @@ impl<A: AnswerLog> ConnectionLog<'_, A> {
         }
     }
 
-    /// Logs the answer that waits on the connection, where the log is on. `number` is the connection's number, and `status` the answer's
-    /// status code.
-    pub fn answered(&mut self, connections: &Connections, number: u64, status: u16)
+    /// Logs the answer that waits on the connection of `socket`, where the log is on. `status` is the answer's status code.
+    pub fn answered(&mut self, connections: &Connections, socket: &ConnectionSocket, status: u16)
         ensures unanswered { self.new.unanswered.ghost_name ≡ self.old.unanswered.ghost_name }
     {
         if self.log.is_on() {
-            log_answer(self.unanswered, self.log, connections, number, status);
+            log_answer(self.unanswered, self.log, connections, socket, status);
         }
     }
 }
 
-/// Logs the answer that waits on connection `number`, and drops the message that it answers.
+/// Returns what is logged of the answer that waits on the connection of `socket`, which is `timed`. `status` is its status code.
+fn logged_answer(socket: &ConnectionSocket, timed: &Timed, status: u16) -> LoggedAnswer
+    ensures connection { result.connection ≡ min (socket.now.number + 1) u64.MAX }
+    ensures client { result.client ≡ socket.now.client }
+    ensures status { result.status ≡ status }
+    ensures length { result.length ≤ length timed.now.connection.waiting }
+{
+    let (_head, body) = timed.connection.waiting();
+    LoggedAnswer {
+        connection: socket.number.saturating_add(1),
+        client: socket.client,
+        status,
+        length: body.len(),
+    }
+}
+
+/// Logs the answer that waits on the connection of `socket`, and drops the message that it answers.
 fn log_answer<A: AnswerLog>(
     unanswered: &mut UnansweredInput,
     log: &mut A,
     connections: &Connections,
-    number: u64,
+    socket: &ConnectionSocket,
     status: u16,
 ) {
-    let Some(timed) = connections.get(number) else {
+    let Some(timed) = connections.get(socket.number) else {
         return;
     };
-    let (_head, body) = timed.connection.waiting();
-    let answer = LoggedAnswer {
-        connection: number.saturating_add(1),
-        status,
-        length: body.len(),
-    };
+    let answer = logged_answer(socket, timed, status);
     let message = unanswered.next();
     log.note_answer(message, answer);
     let count = message.map_or(0, |message| message.len());

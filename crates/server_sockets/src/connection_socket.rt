@@ -1,5 +1,8 @@
 //! Bytes between a connection and its socket.
-ghost use Rattle.std.specs.Prelude.{◌≡◌, ◌≤◌, IfErr, IfOk, IfSome, OnErr, length, take};
+ghost use Rattle.std.specs.Prelude.{◌≡◌, ◌++◌, ◌≤◌, IfErr, IfOk, IfSome, OnErr, length, take};
+ghost use Rattle.std.specs.Io.{WritesAtMost};
+ghost use Rattle.std.specs.Io.KnownBytes.{WriteAppends};
+ghost use Rattle.std.specs.Io.Slices.{io_slices_bytes};
 ghost use Rattle.std.specs.IoError.{error_kind};
 ghost use Rattle.std.specs.declared.io.ErrorKind.TheVariants.{OutOfMemory};
 ghost use Rattle.cog_server.specs.Received.{after_read};
@@ -14,12 +17,14 @@ use mio::net::TcpStream;
 use server_connections::Connections;
 use std::io;
 use std::io::{ErrorKind, IoSlice, Read, Write};
+use std::net::SocketAddr;
 
-/// The socket of a connection, with the connection's number.
+/// The socket of a connection, with the connection's number and the address of its client.
 #[derive(Drop)]
 pub struct ConnectionSocket {
     pub number: u64,
     pub stream: TcpStream,
+    pub client: SocketAddr,
 }
 
 /// Returns the error of a socket for which memory is short.
@@ -29,8 +34,41 @@ fn memory(_error: Memory) -> io::Error
     io::Error::from(ErrorKind::OutOfMemory)
 }
 
-/// Writes at most `most` bytes of what waits on a connection at moment `now`, and returns how many were written. Writes the head and the
-/// body by one call, and copies no byte. Where it fails, the socket was tried at that moment, too.
+/// What takes the bytes of several slices by one call.
+trait WriteSlices: Write {
+    /// Writes the bytes of `slices` in their order, and returns how many were written.
+    fn write_slices(&mut self, slices: &[IoSlice<'_>]) -> io::Result<usize>
+        ensures bound { WritesAtMost result (io_slices_bytes slices.now) }
+        ensures bytes { WriteAppends (Self.contents self.old) (Self.contents self.new) result (io_slices_bytes slices.now) };
+}
+
+impl WriteSlices for &TcpStream {
+    fn write_slices(&mut self, slices: &[IoSlice<'_>]) -> io::Result<usize> {
+        TcpStream::write_vectored(self, slices)
+    }
+}
+
+/// Writes at most `most` bytes of `head` and then of `body`, by one call, and copies no byte. Returns how many were written.
+fn write_parts<W: WriteSlices>(
+    writer: &mut W,
+    head: &[u8],
+    body: &[u8],
+    most: usize,
+) -> io::Result<usize>
+    ensures few { IfOk result (λ n. n ≤ most) }
+    ensures within { IfOk result (λ n. n ≤ length (head.now ++ body.now)) }
+    ensures order { WriteAppends (W.contents writer.old) (W.contents writer.new) result (head.now ++ body.now) }
+{
+    let head = &head[..head.len().min(most)];
+    let body = &body[..body.len().min(most - head.len())];
+    if body.is_empty() {
+        return writer.write(head);
+    }
+    writer.write_slices(&[IoSlice::new(head), IoSlice::new(body)])
+}
+
+/// Writes at most `most` bytes of what waits on a connection at moment `now`, and returns how many were written. Where it fails, the socket
+/// was tried at that moment, too.
 pub fn write_some(
     connections: &mut Connections,
     socket: &ConnectionSocket,
@@ -46,20 +84,34 @@ pub fn write_some(
         connections.old.table.entries connections.new.table.entries) }
     ensures kept { KeepsPlaces socket.now.number connections.old connections.new }
 {
-    let number = socket.number;
-    let mut stream = &socket.stream;
+    write_to(connections, socket.number, &mut &socket.stream, most, now)
+}
+
+/// Writes to `writer`, which is the socket of connection `number`, as `write_some` does.
+fn write_to<W: WriteSlices>(
+    connections: &mut Connections,
+    number: u64,
+    writer: &mut W,
+    most: usize,
+    now: u64,
+) -> io::Result<usize>
+    ensures few { IfOk result (λ n. n ≤ most) }
+    ensures waits { IfOk result (λ n. IfSome (timed_at number connections.old.table.entries)
+        (λ p. n ≤ length p.connection.waiting)) }
+    ensures wrote { IfOk result (λ n. Changes number (timed_after_write n now)
+        connections.old.table.entries connections.new.table.entries) }
+    ensures err { OnErr result (Changes number (timed_after_write 0 now)
+        connections.old.table.entries connections.new.table.entries) }
+    // What is written is the front of what waits, byte by byte.
+    ensures order { IfSome (timed_at number connections.old.table.entries)
+        (λ p. WriteAppends (W.contents writer.old) (W.contents writer.new) result p.connection.waiting) }
+    ensures kept { KeepsPlaces number connections.old connections.new }
+{
     let Some(timed) = connections.get(number) else {
         return Ok(0);
     };
     let (head, body) = timed.connection.waiting();
-    let head = &head[..head.len().min(most)];
-    let body = &body[..body.len().min(most - head.len())];
-    let taken = if body.is_empty() {
-        stream.write(head)
-    } else {
-        stream.write_vectored(&[IoSlice::new(head), IoSlice::new(body)])
-    };
-    match taken {
+    match write_parts(writer, head, body, most) {
         Ok(n) if n > 0 => {
             connections.wrote(number, n, now);
             Ok(n)

@@ -1,7 +1,8 @@
 //! The events of a wait.
-ghost use Rattle.std.specs.Prelude.{◌≡◌, ◌≤◌, ℕ, None, Some};
+ghost use Rattle.std.specs.Prelude.{◌≡◌, ◌⊎◌, ◌≤◌, ℕ, Contains, None, Some};
 ghost use Rattle.server_connections.specs.Table.{timed_at};
 ghost use Rattle.server_connections.specs.declared.timed.Timed.{Timed};
+ghost use Rattle.server_sockets.specs.Draining.{IsReadyAt};
 
 use crate::open_connections::OpenConnections;
 use mio::{Events, Token};
@@ -9,6 +10,27 @@ use std::collections::VecDeque;
 
 /// The listener's token. No connection's number is so great.
 pub const LISTENER: Token = Token(usize::MAX);
+
+/// Queues connection `number`, which is ready for its turn, unless it is queued already. Closes it where memory has no room to queue it.
+#[tactic(auto, using(crate::proofs::EventLemmas::pushed))]
+fn queue(number: u64, open_connections: &mut OpenConnections, ready: &mut VecDeque<u64>)
+    // It is in the queue, or was marked as queued before, or has no slot.
+    ensures noted { Contains ready.new.items number ⊎ (IsReadyAt number open_connections.old
+        ⊎ (timed_at number open_connections.new.connections.table.entries ≡ None)) }
+    ensures places { (k : ℕ) → timed_at k open_connections.old.connections.table.entries ≡ None
+        → timed_at k open_connections.new.connections.table.entries ≡ None }
+    ensures same { (k : ℕ) (p : Timed) → timed_at k open_connections.new.connections.table.entries ≡ Some p
+        → timed_at k open_connections.old.connections.table.entries ≡ Some p }
+    ensures ended { open_connections.old.ended ≤ open_connections.new.ended }
+    ensures cap { open_connections.new.connections.table.cap ≡ open_connections.old.connections.table.cap }
+{
+    if !open_connections.note_ready(number) {
+        return;
+    }
+    if ready.push_back(number).is_err() {
+        open_connections.close(number);
+    }
+}
 
 /// Queues the connections that are ready, each once, and returns whether a connection may wait in the listen backlog. Closes a connection
 /// that memory has no room to queue.
@@ -29,10 +51,8 @@ pub fn note(
         let token = event.token();
         if token == LISTENER {
             accept_pending = true;
-        } else if open_connections.note_ready(token.0 as u64)
-            && ready.push_back(token.0 as u64).is_err()
-        {
-            open_connections.close(token.0 as u64);
+        } else {
+            queue(token.0 as u64, open_connections, ready);
         }
     }
     accept_pending

@@ -22,7 +22,7 @@ use server_connections::Connections;
 use std::alloc::Global;
 use std::collections::HashMap;
 use std::io;
-use std::net::Shutdown;
+use std::net::{Shutdown, SocketAddr};
 use std::num::NonZeroUsize;
 
 /// The socket of a connection, and what the server knows of its turns.
@@ -154,8 +154,9 @@ impl OpenConnections {
         self.connections.frees_at(server, patience)
     }
 
-    /// Adds the connection of `stream`, which starts at moment `now`. Where the system or memory has no room for it, it ends at once.
-    pub fn add(&mut self, poll: &Poll, stream: TcpStream, now: u64)
+    /// Adds the connection of `newcomer`, a socket with the address of its client, which starts at moment `now`. Where the system or memory
+    /// has no room for it, it ends at once.
+    pub fn add(&mut self, poll: &Poll, newcomer: (TcpStream, SocketAddr), now: u64)
         ensures others { OthersStay self.old.connections.next self.old.connections.table.entries self.new.connections.table.entries }
         ensures kept { (k : ℕ) (p : Timed) → timed_at k self.old.connections.table.entries ≡ Some p
             → timed_at k self.new.connections.table.entries ≡ Some p }
@@ -166,20 +167,25 @@ impl OpenConnections {
         ensures added { HasStartedAt self.old.connections.next now self.new.connections.table.entries
             ⊎ ((self.old.ended + 1 < 2 ^ 32 → self.new.ended ≡ self.old.ended + 1)
             × ((k : ℕ) → timed_at k self.new.connections.table.entries ≡ timed_at k self.old.connections.table.entries)) }
-        // It doesn't drain, and its first turn isn't queued yet.
-        ensures fresh { IsFresh self.old.connections.next self.new
+        // It is of this client, doesn't drain, and its first turn isn't queued yet.
+        ensures fresh { IsFresh newcomer.1 self.old.connections.next self.new
             ⊎ ((k : ℕ) → timed_at k self.new.connections.table.entries ≡ timed_at k self.old.connections.table.entries) }
     {
-        if self.try_add(poll, stream, now).is_err() {
+        if self.try_add(poll, newcomer, now).is_err() {
             self.ended = self.ended.saturating_add(1);
         }
     }
 
-    /// Adds the connection of `stream`, which starts at moment `now`. Where that fails, no slot is taken.
-    fn try_add(&mut self, poll: &Poll, mut stream: TcpStream, now: u64) -> io::Result<()>
+    /// Adds the connection of `newcomer`, which starts at moment `now`. Where that fails, no slot is taken.
+    fn try_add(
+        &mut self,
+        poll: &Poll,
+        newcomer: (TcpStream, SocketAddr),
+        now: u64,
+    ) -> io::Result<()>
         ensures ended { self.new.ended ≡ self.old.ended }
         ensures added { OnOk result (HasStartedAt self.old.connections.next now self.new.connections.table.entries) }
-        ensures fresh { OnOk result (IsFresh self.old.connections.next self.new) }
+        ensures fresh { OnOk result (IsFresh newcomer.1 self.old.connections.next self.new) }
         ensures err { OnErr result ((k : ℕ)
             → timed_at k self.new.connections.table.entries ≡ timed_at k self.old.connections.table.entries) }
         ensures others { OthersStay self.old.connections.next self.old.connections.table.entries self.new.connections.table.entries }
@@ -192,6 +198,7 @@ impl OpenConnections {
         if !has_place(&self.connections) {
             return Err(io::Error::from(io::ErrorKind::Other));
         }
+        let (mut stream, client) = newcomer;
         stream.set_nodelay(true)?;
         let Ok(number) = self.connections.accept(now) else {
             return Err(io::Error::from(io::ErrorKind::OutOfMemory));
@@ -202,7 +209,11 @@ impl OpenConnections {
             Interest::READABLE | Interest::WRITABLE,
         );
         let peer = Peer {
-            socket: ConnectionSocket { number, stream },
+            socket: ConnectionSocket {
+                number,
+                stream,
+                client,
+            },
             is_draining: false,
             is_ready: false,
             unanswered: UnansweredInput::new(self.alloc),

@@ -31,7 +31,7 @@ use mio::net::{TcpListener, TcpStream};
 use mio::{Events, Interest, Poll};
 use std::collections::VecDeque;
 use std::io::ErrorKind;
-use std::net::Net;
+use std::net::{Net, SocketAddr};
 use std::num::NonZeroUsize;
 use std::{io, net};
 
@@ -249,8 +249,8 @@ impl Serving {
             return Ok(false);
         }
         match self.listener.accept() {
-            Ok((stream, _)) => {
-                self.welcome(stream, now)?;
+            Ok(newcomer) => {
+                self.welcome(newcomer, now)?;
                 Ok(true)
             }
             Err(error) => self.may_try_again(error, now),
@@ -316,8 +316,8 @@ impl Serving {
             .map_err(AcceptError::Ask)
     }
 
-    /// Adds the connection of `stream`, which was accepted at moment `now`.
-    fn welcome(&mut self, stream: TcpStream, now: u64) -> Result<(), AcceptError>
+    /// Adds the connection of `newcomer`, which was accepted at moment `now`: its socket, and the address of its client.
+    fn welcome(&mut self, newcomer: (TcpStream, SocketAddr), now: u64) -> Result<(), AcceptError>
         requires { length (places_of self.old) < room_of self.old }
         ensures others { OthersStay (next_of self.old) (places_of self.old)
             (places_of self.new) }
@@ -338,7 +338,7 @@ impl Serving {
     {
         self.accepted = self.accepted.saturating_add(1);
         self.is_barred = false;
-        self.open_connections.add(&self.poll, stream, now);
+        self.open_connections.add(&self.poll, newcomer, now);
         if self.out_of_descriptors || !self.open_connections.has_place() {
             self.out_of_descriptors = false;
             self.ask()?;

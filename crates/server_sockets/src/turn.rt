@@ -114,7 +114,7 @@ fn step<A: AnswerLog>(
         return Ok(Some(write_some(connections, socket, most, now)?));
     }
     if let Some(status) = answer(connections, number, service, now)? {
-        log.answered(connections, number, status);
+        log.answered(connections, socket, status);
         return Ok(Some(0));
     }
     if has_ended(connections, number) {

@@ -6,6 +6,7 @@ use fixtures_support::f1;
 use programs_support::{Capture, without_times};
 use server_files::{AccessLog, ServeFilesError, listen, publish_all, serve_connections};
 use server_sockets::Serving;
+use std::alloc::Global;
 use std::fs;
 use std::io::Write;
 use std::net::{Net, SocketAddr, TcpListener, TcpStream};
@@ -18,7 +19,7 @@ fn logged<R>(rt: &R) -> AccessLog<'_, R> {
     AccessLog { rt, is_kept: true }
 }
 
-/// What is told on standard error where this is sent on a connection, and one is served.
+/// Returns what is logged, without times, where `text` is sent on a connection, and one is served. The client's address is `CLIENT`.
 fn told_of<R>(
     rt: &R,
     server: &mut Server,
@@ -29,7 +30,7 @@ where
     R: Files + Clock + AllocGlobal + Net<Listener = TcpListener, Stream = TcpStream>,
 {
     let listener = TcpListener::bind(rt, "127.0.0.1:0")?;
-    let _client = connect(rt, listener.local_addr()?, text)?;
+    let client = connect(rt, listener.local_addr()?, text)?;
     let capture = Capture::new(rt);
     if serve_connections(
         &mut logged(&capture),
@@ -44,7 +45,21 @@ where
         return Err(Fail::new("a fault"));
     }
     let (_, err) = capture.into_texts();
-    Ok(without_times(rt.alloc(), &err)?)
+    let log = without_times(rt.alloc(), &err)?;
+    with_client_named(rt.alloc(), log.as_str(), client.local_addr()?)
+}
+
+/// Writes `CLIENT` in the place of a client's address, where a line begins with it.
+fn with_client_named(alloc: Global, log: &str, client: SocketAddr) -> Result<String, Fail> {
+    let address = format!(in alloc; "{client} ")?;
+    let mut lines = String::new(alloc);
+    for line in log.lines() {
+        match line.strip_prefix(address.as_str()) {
+            Some(rest) => writeln!(lines, "CLIENT {rest}")?,
+            None => writeln!(lines, "{line}")?,
+        }
+    }
+    Ok(lines)
 }
 
 /// Four messages on one connection; the last is no request, and ends it.
@@ -53,10 +68,10 @@ const MESSAGES: &str = "GET /a HTTP/1.1\r\nHost: h\r\nRange: bytes=1-4\r\n\r\n\
     GET /b\u{fc} HTTP/1.1\r\nHost: h\r\n\r\n\
     \r\n?\r\n\r\n";
 
-const ANSWERS: &str = "cogserve: connection 1: GET /a bytes=1-4: 206, 4 bytes\n\
-    cogserve: connection 1: HEAD /a: 200, 0 bytes\n\
-    cogserve: connection 1: GET /b\\xc3\\xbc: 404, 0 bytes\n\
-    cogserve: connection 1: no request: 400, 0 bytes\n";
+const ANSWERS: &str = "CLIENT cogserve: connection 1: GET /a bytes=1-4: 206, 4 bytes\n\
+    CLIENT cogserve: connection 1: HEAD /a: 200, 0 bytes\n\
+    CLIENT cogserve: connection 1: GET /b\\xc3\\xbc: 404, 0 bytes\n\
+    CLIENT cogserve: connection 1: no request: 400, 0 bytes\n";
 
 #[test]
 fn tells_each_answer(rt: HostRuntime) -> Result<(), Fail> {
@@ -92,9 +107,10 @@ fn tells_the_whole_of_a_request_that_comes_in_pieces(rt: HostRuntime) -> Result<
     client.write_all(b"ge: bytes=1-4\r\n\r\n")?;
     serving.wait(1)?;
     serving.turns(&Service::plain(&server), 1, &mut log);
+    let log = without_times(rt.alloc(), &capture.into_texts().1)?;
     assert_eq!(rt;
-        without_times(rt.alloc(), &capture.into_texts().1)?.as_str(),
-        "cogserve: connection 1: GET /a bytes=1-4: 206, 4 bytes\n"
+        with_client_named(rt.alloc(), log.as_str(), client.local_addr()?)?.as_str(),
+        "CLIENT cogserve: connection 1: GET /a bytes=1-4: 206, 4 bytes\n"
     );
     Ok(())
 }

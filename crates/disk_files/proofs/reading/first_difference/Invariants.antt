@@ -1,6 +1,6 @@
 use Rattle.std.specs.Prelude.{◌≡◌, ◌+◌, ◌++◌, ◌≤◌, ℕ, List, length}
 use Rattle.std.specs.Io.KnownBytes.{Consumes}
-use Rattle.disk_files.proofs.reading.gives_just.Given as goal
+use Rattle.disk_files.proofs.reading.first_difference.Given as goal
 
 -- as many bytes came as were compared, and each was the same
 abbrev pub invariant-loop : goal.invariant-loop
