@@ -1,9 +1,12 @@
--- The sides that Info tells of a level are the file's.
-use Rattle.std.proofs.Common.{◌≡◌, ℕ, List, Option, Some, None, Result, refl, sym, subst, ap, ◌∙◌}
-use Rattle.std.specs.Prelude.{slice_get, IfSome}
+-- The window that Info gives is the file's.
+use Rattle.std.proofs.Common.{◌≡◌, ◌≢◌, ℕ, true≢false, List, Option, Some, None, Result, refl, sym, subst, ap, ◌∙◌}
+use Rattle.std.specs.Prelude.{slice_get, IfSome, is_ok}
 use Rattle.std.specs.Option.{option_map}
 use Rattle.std.proofs.lemmas.Option.{none-some, same_Some, slice_get-map}
-use Rattle.tiff_dir.specs.declared.query.Query.TheVariants.{Window}
+use Rattle.tiff_dir.specs.declared.query.Query.TheVariants.{Window, Info as AnInfo}
+use Rattle.tiff_dir.specs.declared.query.Query.{Query}
+use Rattle.text_description.specs.Bounds.{IsWindowOf}
+use Rattle.text_description.specs.declared.bounds.NoBounds.{NoBounds}
 use Rattle.tiff_dir.specs.declared.query.Pick.TheVariants.{Level}
 use Rattle.tiff_dir.specs.Fault.{sides}
 use Rattle.tiff_dir.specs.File.{◌>>=◌}
@@ -20,7 +23,10 @@ use Rattle.read_command.specs.declared.error.ReadError.{ReadError}
 use Rattle.read_command.specs.declared.reading.Asked.{Asked}
 use Rattle.read_command.specs.declared.text.Text.{Text}
 use Rattle.read_command.specs.Exchanges.{AsksOf}
-use Rattle.read_command.specs.Text.{sides_of_level, IsFor, IsOfWhole, IsOfWholeBy, IsTrueOfBook, IsWritten}
+use Rattle.read_command.specs.declared.reading.Part.{Part}
+use Rattle.read_command.specs.declared.reading.Part.TheVariants.{Whole, Bounds}
+use Rattle.read_command.specs.Part.{sides_of_level, GivesPart, HasNoPart, IsGiven, IsOfPart, IsOfPartBy, IsWindowFor}
+use Rattle.read_command.specs.Text.{IsFor, IsTrueOfBook, IsWritten}
 
 told : {A B : Type 0} (g : A → Option B) (b : Option B) (a : Option A) → option_map Some b ≡ option_map g a → (a >>= g) ≡ b
 told g None None is = refl
@@ -34,23 +40,38 @@ sides_told f i level is =
     told (sides f) (slice_get i.sides.items level) (slice_get (level_directories f) level)
     (sym (slice_get-map Some i.sides.items level) ∙ ap (λ l. slice_get l level) is.sides_are ∙ slice_get-map (sides f) (level_directories f) level)
 
-whole_is : (f : List ℕ) (i : Info) (level : ℕ) (s : ℕ × ℕ) → IsInfoOf f i → IfSome (slice_get i.sides.items level) (λ t. t ≡ s)
-    → IsOfWhole f level (Window 0 0 s.0 s.1 (Level level))
-whole_is f i level s is same = record {
+part_is : (f : List ℕ) (i : Info) (part : Part) (q : Query) → IsInfoOf f i → IsGiven i part q → IsOfPart f part q
+part_is f i (Whole level) q is (s, window, same) = record {
   width = s.0;
   height = s.1;
-  window = refl;
+  window = window;
   sides = subst (λ o. IfSome o (λ t. t ≡ s)) (sym (sides_told f i level is)) same;
 }
+part_is f i (Bounds bounds pick) q is gives = (i, is, gives)
 
--- A window with the sides that the client's report tells of a level is the whole of it, in the publication whose tag the report tells.
-pub whole_told : TagsTellOne → (book : Book) → HasDistinctTags book → (c : ClientState) (r : Report) (i : Info) (level : ℕ) (s : ℕ × ℕ) → Stands c (Some r) → ClientAgrees c book
-    → r.outcome ≡ outcome.Info i → IfSome (slice_get i.sides.items level) (λ t. t ≡ s) → IsOfWholeBy book r.tag level (Window 0 0 s.0 s.1 (Level level))
-whole_told one book distinct c r i level s stands agrees is same p among tag =
+-- A query for the window that the client's report of Info gives is for the window of the publication whose tag the report tells.
+pub part_told : TagsTellOne → (book : Book) → HasDistinctTags book → (c : ClientState) (r : Report) (i : Info) (part : Part) (q : Query) → Stands c (Some r) → ClientAgrees c book
+    → r.outcome ≡ outcome.Info i → IsGiven i part q → IsOfPartBy book r.tag part q
+part_told one book distinct c r i part q stands agrees is gives p among tag =
     let true_of = stands.holds book agrees in
     let info = subst (λ o. IsTrueOf true_of.source.file r.query o) is true_of.holds in
     let equal = one book distinct true_of.source p true_of.published among (true_of.of_tag ∙ sym tag) in
-    subst (λ (x : Publication). IsOfWhole x.file level (Window 0 0 s.0 s.1 (Level level))) equal (whole_is true_of.source.file i level s info.1 same)
+    subst (λ (x : Publication). IsOfPart x.file part q) equal (part_is true_of.source.file i part q info.1 gives)
+
+-- a window isn't Info
+pub not_info : (part : Part) (q : Query) → IsWindowFor part q → q ≢ AnInfo
+not_info (Whole level) q (w, h, is) = λ same. let bad : AnInfo ≡ Window 0 0 w h (Level level) = sym same ∙ is in cc
+not_info (Bounds bounds pick) q is = λ same. subst (IsWindowOf pick) same is
+
+-- Info that gives no window gives none
+pub no_part : (i : Info) (part : Part) (why : NoBounds) → HasNoPart i part why → GivesPart i part → ⊥
+no_part i (Whole level) why none gives = none
+no_part i (Bounds bounds pick) why none gives = true≢false (sym (ap is_ok (sym none) ∙ refl) ∙ gives)
+
+-- Info that gives one does
+pub gives_part : (i : Info) (part : Part) (q : Query) → IsGiven i part q → GivesPart i part
+gives_part i (Whole level) q is = tt
+gives_part i (Bounds bounds pick) q is = ap is_ok is
 
 -- What is written of the report that stands is true of one publication of the book.
 pub true_of_book : (name : List ℕ) (book : Book) (a : Asked) (c : ClientState) (r : Report) (written : Result Text ReadError) → ((p : Publication) → In p book → p.name ≡ name) → ClientAgrees c book
