@@ -14,6 +14,7 @@ use Rattle.tiff_dir.specs.Level.{level_directories, level_directory}
 use Rattle.http_range.specs.Book.{Publication, Book, HasDistinctTags, In}
 use Rattle.http_range.specs.Laws.{TagsTellOne}
 use Rattle.cog_reader.specs.declared.outcome.Info.{Info}
+use Rattle.cog_reader.specs.declared.outcome.Outcome.{Outcome}
 use Rattle.cog_reader.specs.declared.outcome.Outcome.TheVariants as outcome
 use Rattle.cog_reader.specs.Outcome.{IsInfoOf, IsTrueOf}
 use Rattle.cog_client.specs.declared.report.Report.{Report}
@@ -21,11 +22,12 @@ use Rattle.cog_client.specs.Client.{ClientState, ClientAgrees, query_of}
 use Rattle.cog_client.specs.Keeps.{Stands}
 use Rattle.read_command.specs.declared.error.ReadError.{ReadError}
 use Rattle.read_command.specs.declared.reading.Asked.{Asked}
+use Rattle.read_command.specs.declared.reading.Asked.TheVariants as asked
 use Rattle.read_command.specs.declared.text.Text.{Text}
 use Rattle.read_command.specs.Exchanges.{AsksOf}
 use Rattle.read_command.specs.declared.reading.Part.{Part}
 use Rattle.read_command.specs.declared.reading.Part.TheVariants.{Whole, Bounds}
-use Rattle.read_command.specs.Part.{sides_of_level, GivesPart, HasNoPart, IsGiven, IsOfPart, IsOfPartBy, IsWindowFor}
+use Rattle.read_command.specs.Part.{sides_of_level, GivesPart, HasNoPart, IsGiven, IsOfPart, IsOfPartBy, IsWindowFor, LacksPart, TellsPart}
 use Rattle.read_command.specs.Text.{IsFor, IsTrueOfBook, IsWritten}
 
 told : {A B : Type 0} (g : A → Option B) (b : Option B) (a : Option A) → option_map Some b ≡ option_map g a → (a >>= g) ≡ b
@@ -41,12 +43,13 @@ sides_told f i level is =
     (sym (slice_get-map Some i.sides.items level) ∙ ap (λ l. slice_get l level) is.sides_are ∙ slice_get-map (sides f) (level_directories f) level)
 
 part_is : (f : List ℕ) (i : Info) (part : Part) (q : Query) → IsInfoOf f i → IsGiven i part q → IsOfPart f part q
-part_is f i (Whole level) q is (s, window, same) = record {
-  width = s.0;
-  height = s.1;
-  window = window;
-  sides = subst (λ o. IfSome o (λ t. t ≡ s)) (sym (sides_told f i level is)) same;
+part_is f i (Whole level) (Window x y w h pick) is (x_is, y_is, pick_is, same) = record {
+  width = w;
+  height = h;
+  window = ap (λ a. Window a y w h pick) x_is ∙ ap (λ b. Window 0 b w h pick) y_is ∙ ap (λ p. Window 0 0 w h p) pick_is;
+  sides = subst (λ o. IfSome o (λ s. s ≡ (w, h))) (sym (sides_told f i level is)) same;
 }
+part_is f i (Whole level) AnInfo is gives = absurd gives
 part_is f i (Bounds bounds pick) q is gives = (i, is, gives)
 
 -- A query for the window that the client's report of Info gives is for the window of the publication whose tag the report tells.
@@ -60,7 +63,8 @@ part_told one book distinct c r i part q stands agrees is gives p among tag =
 
 -- a window isn't Info
 pub not_info : (part : Part) (q : Query) → IsWindowFor part q → q ≢ AnInfo
-not_info (Whole level) q (w, h, is) = λ same. let bad : AnInfo ≡ Window 0 0 w h (Level level) = sym same ∙ is in cc
+not_info (Whole level) (Window x y w h p) is = λ same. cc
+not_info (Whole level) AnInfo is = λ same. is
 not_info (Bounds bounds pick) q is = λ same. subst (IsWindowOf pick) same is
 
 -- Info that gives no window gives none
@@ -72,6 +76,16 @@ no_part i (Bounds bounds pick) why none gives = true≢false (sym (ap is_ok (sym
 pub gives_part : (i : Info) (part : Part) (q : Query) → IsGiven i part q → GivesPart i part
 gives_part i (Whole level) q is = tt
 gives_part i (Bounds bounds pick) q is = ap is_ok is
+
+-- and so of an outcome that is Info
+pub none_told : (o : Outcome) (i : Info) (part : Part) (why : NoBounds) → o ≡ outcome.Info i → HasNoPart i part why → TellsPart (asked.Part part) o → ⊥
+none_told o i part why is none tells = no_part i part why none (subst (λ x. TellsPart (asked.Part part) x) is tells)
+
+pub lacks_told : (o : Outcome) (i : Info) (part : Part) (why : NoBounds) → o ≡ outcome.Info i → HasNoPart i part why → LacksPart (asked.Part part) o why
+lacks_told o i part why is none = subst (λ x. LacksPart (asked.Part part) x why) (sym is) none
+
+pub part_tells : (o : Outcome) (i : Info) (part : Part) (q : Query) → o ≡ outcome.Info i → IsGiven i part q → TellsPart (asked.Part part) o
+part_tells o i part q is gives = subst (λ x. TellsPart (asked.Part part) x) (sym is) (gives_part i part q gives)
 
 -- What is written of the report that stands is true of one publication of the book.
 pub true_of_book : (name : List ℕ) (book : Book) (a : Asked) (c : ClientState) (r : Report) (written : Result Text ReadError) → ((p : Publication) → In p book → p.name ≡ name) → ClientAgrees c book

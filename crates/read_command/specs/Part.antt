@@ -1,7 +1,7 @@
 -- The windows that Info of a file gives: the whole of a level, and the window that covers bounds.
 use Rattle.std.specs.Prelude.{◌≡◌, ℕ, List, Option, Ok, Err, IfSome, IsOk, slice_get, ⊤}
 use Rattle.tiff_dir.specs.declared.query.Query.{Query}
-use Rattle.tiff_dir.specs.declared.query.Query.TheVariants.{Window}
+use Rattle.tiff_dir.specs.declared.query.Query.TheVariants.{Window, Info as AnInfo}
 use Rattle.tiff_dir.specs.declared.query.Pick.TheVariants.{Level}
 use Rattle.tiff_dir.specs.Fault.{sides}
 use Rattle.tiff_dir.specs.File.{◌>>=◌}
@@ -44,7 +44,8 @@ IsOfPartBy book tag part q = (p : Publication) → In p book → p.tag ≡ tag �
 
 -- The query is for the window that Info gives: for all columns and rows of a level that is there, or for those that cover bounds.
 abbrev pub IsGiven : Info → Part → Query → Type 0
-IsGiven info (Whole level) q = (s : ℕ × ℕ) × (q ≡ Window 0 0 s.0 s.1 (Level level)) × IfSome (slice_get info.sides.items level) (λ t. t ≡ s)
+IsGiven info (Whole level) (Window x y w h pick) = (x ≡ 0) × (y ≡ 0) × (pick ≡ Level level) × IfSome (slice_get info.sides.items level) (λ s. s ≡ (w, h))
+IsGiven info (Whole level) AnInfo = ⊥
 IsGiven info (Bounds bounds pick) q = window_by info bounds pick ≡ Ok q
 
 -- bounds have no window, for this reason
@@ -69,5 +70,6 @@ LacksPart a o why = ⊥
 
 -- The query is for a window as it is asked for: of a level from its first sample on, or of what is picked beside the bounds.
 abbrev pub IsWindowFor : Part → Query → Type 0
-IsWindowFor (Whole level) q = (width height : ℕ) × q ≡ Window 0 0 width height (Level level)
+IsWindowFor (Whole level) (Window x y w h pick) = (x ≡ 0) × (y ≡ 0) × (pick ≡ Level level)
+IsWindowFor (Whole level) AnInfo = ⊥
 IsWindowFor (Bounds bounds pick) q = IsWindowOf pick q

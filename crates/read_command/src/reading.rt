@@ -365,7 +365,7 @@ fn part_of(info: &Info, part: Part) -> Result<Query, NoBounds>
 }
 
 /// The tag that a client has told Info under, and the window that Info gives.
-#[tactic(auto, using(crate::proofs::PartLemmas::part_told, crate::proofs::PartLemmas::not_info, crate::proofs::PartLemmas::no_part))]
+#[tactic(auto, using(crate::proofs::PartLemmas::part_told, crate::proofs::PartLemmas::not_info, crate::proofs::PartLemmas::none_told))]
 fn told_part(client: &Client, part: Part) -> Option<(Tag, Query)>
     ensures part { (book : Book) → HasDistinctTags book → ClientAgrees client.now book
         → IfSome result (λ told. IsOfPartBy book told.0 part told.1) }
