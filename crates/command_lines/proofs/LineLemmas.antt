@@ -405,19 +405,18 @@ no_values f o found is =
     let texts : Option (Bor (List (Bor (List ℕ)))) → Option (List (List ℕ)) = option_map (λ (s : Bor (List (Bor (List ℕ)))). map (λ (w : Bor (List ℕ)). w.now) s.now) in
     sym (ap (option_and_then four_of) (sym (raw_values-rows f (codes "bounds")) ∙ sym found ∙ ap texts is))
 
-four_items : {X : Type 0} (xs : List X) (a b c d : X) → length xs ≡ 4 → a ≡ slice_index_or xs 0 a → b ≡ slice_index_or xs 1 b → c ≡ slice_index_or xs 2 c
-    → d ≡ slice_index_or xs 3 d → xs ≡ a ∷ b ∷ c ∷ d ∷ []
-four_items [] a b c d four p q r t = absurd (omega arith)
-four_items (w ∷ []) a b c d four p q r t = absurd (omega arith)
-four_items (w ∷ s ∷ []) a b c d four p q r t = absurd (omega arith)
-four_items (w ∷ s ∷ e ∷ []) a b c d four p q r t = absurd (omega arith)
-four_items (w ∷ s ∷ e ∷ n ∷ []) a b c d four p q r t =
-    ap (λ i. i ∷ s ∷ e ∷ n ∷ []) (sym p) ∙ ap (λ i. a ∷ i ∷ e ∷ n ∷ []) (sym q) ∙ ap (λ i. a ∷ b ∷ i ∷ n ∷ []) (sym r) ∙ ap (λ i. a ∷ b ∷ c ∷ i ∷ []) (sym t)
-four_items (w ∷ s ∷ e ∷ n ∷ x ∷ more) a b c d four p q r t = absurd (omega arith)
+four_items : {X : Type 0} (xs : List X) (d : X) → length xs ≡ 4
+    → xs ≡ slice_index_or xs 0 d ∷ slice_index_or xs 1 d ∷ slice_index_or xs 2 d ∷ slice_index_or xs 3 d ∷ []
+four_items [] d four = absurd (omega arith)
+four_items (w ∷ []) d four = absurd (omega arith)
+four_items (w ∷ s ∷ []) d four = absurd (omega arith)
+four_items (w ∷ s ∷ e ∷ []) d four = absurd (omega arith)
+four_items (w ∷ s ∷ e ∷ n ∷ []) d four = refl
+four_items (w ∷ s ∷ e ∷ n ∷ x ∷ more) d four = absurd (omega arith)
 
 -- and their words
-pub four_values : (f : Found) (xs : List (Bor (List ℕ))) (a b c d : Bor (List ℕ)) → Some (map (λ w. w.now) xs) ≡ bounds_of (rows_of f) → length xs ≡ 4
-    → a ≡ slice_index_or xs 0 a → b ≡ slice_index_or xs 1 b → c ≡ slice_index_or xs 2 c → d ≡ slice_index_or xs 3 d
-    → bounds_of (rows_of f) ≡ Some (a.now ∷ b.now ∷ c.now ∷ d.now ∷ [])
-four_values f xs a b c d given four p q r t =
-    sym given ∙ ap (λ (l : List (Bor (List ℕ))). Some (map (λ (w : Bor (List ℕ)). w.now) l)) (four_items xs a b c d four p q r t)
+pub four_values : (f : Found) (xs : List (Bor (List ℕ))) (d : Bor (List ℕ)) → Some (map (λ w. w.now) xs) ≡ bounds_of (rows_of f) → length xs ≡ 4
+    → bounds_of (rows_of f)
+    ≡ Some ((slice_index_or xs 0 d).now ∷ (slice_index_or xs 1 d).now ∷ (slice_index_or xs 2 d).now ∷ (slice_index_or xs 3 d).now ∷ [])
+four_values f xs d given four =
+    sym given ∙ ap (λ (l : List (Bor (List ℕ))). Some (map (λ (w : Bor (List ℕ)). w.now) l)) (four_items xs d four)
