@@ -1,13 +1,11 @@
 -- The window that Info gives is the file's.
-use Rattle.std.proofs.Common.{◌≡◌, ◌≢◌, ℕ, true≢false, List, Option, Some, None, Result, Ok, Err, refl, sym, subst, ap, ◌∙◌}
-use Rattle.std.specs.Prelude.{slice_get, IfErr, IfOk, IfSome, is_ok}
+use Rattle.std.proofs.Common.{◌≡◌, ◌≢◌, ℕ, true≢false, List, Option, Some, None, Result, refl, sym, subst, ap, ◌∙◌}
+use Rattle.std.specs.Prelude.{slice_get, IfSome, is_ok}
 use Rattle.std.specs.Option.{option_map}
 use Rattle.std.proofs.lemmas.Option.{none-some, same_Some, slice_get-map}
 use Rattle.tiff_dir.specs.declared.query.Query.TheVariants.{Window, Info as AnInfo}
 use Rattle.tiff_dir.specs.declared.query.Query.{Query}
-use Rattle.tiff_dir.specs.declared.query.Pick.{Pick}
-use Rattle.text_description.specs.Bounds.{IsWindowOf, window_by}
-use Rattle.text_description.specs.declared.bounds.Bounds.{Bounds}
+use Rattle.text_description.specs.Bounds.{IsWindowOf}
 use Rattle.text_description.specs.declared.bounds.NoBounds.{NoBounds}
 use Rattle.tiff_dir.specs.declared.query.Pick.TheVariants.{Level}
 use Rattle.tiff_dir.specs.Fault.{sides}
@@ -23,13 +21,12 @@ use Rattle.cog_client.specs.declared.report.Report.{Report}
 use Rattle.cog_client.specs.Client.{ClientState, ClientAgrees, query_of}
 use Rattle.cog_client.specs.Keeps.{Stands}
 use Rattle.read_command.specs.declared.error.ReadError.{ReadError}
-use Rattle.read_command.specs.declared.error.ReadError.TheVariants.{NoReport, NotPlaced}
 use Rattle.read_command.specs.declared.reading.Asked.{Asked}
 use Rattle.read_command.specs.declared.reading.Asked.TheVariants as asked
 use Rattle.read_command.specs.declared.text.Text.{Text}
 use Rattle.read_command.specs.Exchanges.{AsksOf}
 use Rattle.read_command.specs.declared.reading.Part.{Part}
-use Rattle.read_command.specs.declared.reading.Part.TheVariants.{Whole, Bounds as OfBounds}
+use Rattle.read_command.specs.declared.reading.Part.TheVariants.{Whole, Bounds}
 use Rattle.read_command.specs.Part.{sides_of_level, GivesPart, HasNoPart, IsGiven, IsOfPart, IsOfPartBy, IsWindowFor, LacksPart, TellsPart}
 use Rattle.read_command.specs.Text.{IsFor, IsTrueOfBook, IsWritten}
 
@@ -53,7 +50,7 @@ part_is f i (Whole level) (Window x y w h pick) is (x_is, y_is, pick_is, same) =
   sides = subst (λ o. IfSome o (λ s. s ≡ (w, h))) (sym (sides_told f i level is)) same;
 }
 part_is f i (Whole level) AnInfo is gives = absurd gives
-part_is f i (OfBounds bounds pick) q is gives = (i, is, gives)
+part_is f i (Bounds bounds pick) q is gives = (i, is, gives)
 
 -- A query for the window that the client's report of Info gives is for the window of the publication whose tag the report tells.
 pub part_told : TagsTellOne → (book : Book) → HasDistinctTags book → (c : ClientState) (r : Report) (i : Info) (part : Part) (q : Query) → Stands c (Some r) → ClientAgrees c book
@@ -68,17 +65,17 @@ part_told one book distinct c r i part q stands agrees is gives p among tag =
 pub not_info : (part : Part) (q : Query) → IsWindowFor part q → q ≢ AnInfo
 not_info (Whole level) (Window x y w h p) is = λ same. cc
 not_info (Whole level) AnInfo is = λ same. is
-not_info (OfBounds bounds pick) q is = λ same. subst (IsWindowOf pick) same is
+not_info (Bounds bounds pick) q is = λ same. subst (IsWindowOf pick) same is
 
 -- Info that gives no window gives none
 pub no_part : (i : Info) (part : Part) (why : NoBounds) → HasNoPart i part why → GivesPart i part → ⊥
 no_part i (Whole level) why none gives = none
-no_part i (OfBounds bounds pick) why none gives = true≢false (sym (ap is_ok (sym none) ∙ refl) ∙ gives)
+no_part i (Bounds bounds pick) why none gives = true≢false (sym (ap is_ok (sym none) ∙ refl) ∙ gives)
 
 -- Info that gives one does
 pub gives_part : (i : Info) (part : Part) (q : Query) → IsGiven i part q → GivesPart i part
 gives_part i (Whole level) q is = tt
-gives_part i (OfBounds bounds pick) q is = ap is_ok is
+gives_part i (Bounds bounds pick) q is = ap is_ok is
 
 -- and so of an outcome that is Info
 pub none_told : (o : Outcome) (i : Info) (part : Part) (why : NoBounds) → o ≡ outcome.Info i → HasNoPart i part why → TellsPart (asked.Part part) o → ⊥
@@ -89,28 +86,6 @@ lacks_told o i part why is none = subst (λ x. LacksPart (asked.Part part) x why
 
 pub part_tells : (o : Outcome) (i : Info) (part : Part) (q : Query) → o ≡ outcome.Info i → IsGiven i part q → TellsPart (asked.Part part) o
 part_tells o i part q is gives = subst (λ x. TellsPart (asked.Part part) x) (sym is) (gives_part i part q gives)
-
--- what is written where bounds have no window, and where it isn't read yet
-pub lacks_written : (a : Asked) (tag : List ℕ) (o : Outcome) (i : Info) (part : Part) (why : NoBounds) → a ≡ asked.Part part → o ≡ outcome.Info i → HasNoPart i part why
-    → IsWritten a tag o (Err (NotPlaced why))
-lacks_written a tag o i part why for is none =
-    subst (λ (b : Asked). IsWritten b tag o (Err (NotPlaced why))) (sym for)
-    (subst (λ (x : Outcome). IsWritten (asked.Part part) tag x (Err (NotPlaced why))) (sym is) none)
-
-pub tells_written : (a : Asked) (tag : List ℕ) (o : Outcome) (i : Info) (part : Part) (q : Query) → a ≡ asked.Part part → o ≡ outcome.Info i → IsGiven i part q
-    → IsWritten a tag o (Err NoReport)
-tells_written a tag o i part q for is gives =
-    subst (λ (b : Asked). IsWritten b tag o (Err NoReport)) (sym for)
-    (subst (λ (x : Outcome). IsWritten (asked.Part part) tag x (Err NoReport)) (sym is) (gives_part i part q gives))
-
--- what bounds have
-pub gives_by : (r : Result Query NoBounds) (i : Info) (b : Bounds) (pick : Pick) → r ≡ window_by i b pick → IfOk r (IsGiven i (OfBounds b pick))
-gives_by (Ok q) i b pick is = sym is
-gives_by (Err e) i b pick is = tt
-
-pub none_by : (r : Result Query NoBounds) (i : Info) (b : Bounds) (pick : Pick) → r ≡ window_by i b pick → IfErr r (HasNoPart i (OfBounds b pick))
-none_by (Ok q) i b pick is = tt
-none_by (Err e) i b pick is = sym is
 
 -- What is written of the report that stands is true of one publication of the book.
 pub true_of_book : (name : List ℕ) (book : Book) (a : Asked) (c : ClientState) (r : Report) (written : Result Text ReadError) → ((p : Publication) → In p book → p.name ≡ name) → ClientAgrees c book

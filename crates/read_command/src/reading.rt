@@ -301,7 +301,6 @@ impl<R: Eprint + Clock + AllocGlobal> Exchanges<'_, '_, R> {
     }
 
     /// The text of a client's report. A fault of the file is told as one.
-    #[tactic(auto, using(crate::proofs::PartLemmas::lacks_written, crate::proofs::PartLemmas::tells_written))]
     fn text_of<'c>(
         &self,
         client: &Client,
@@ -350,7 +349,6 @@ fn level_sides(info: &Info, level: u32) -> (u32, u32)
 
 /// Returns the query of the window that Info gives. Of a level that isn't there it is for a window that isn't, either. Fails where bounds
 /// have no window.
-#[tactic(auto, using(crate::proofs::PartLemmas::gives_by, crate::proofs::PartLemmas::none_by))]
 fn part_of(info: &Info, part: Part) -> Result<Query, NoBounds>
     ensures gives { IfOk result (IsGiven info.now part) }
     ensures window { IfOk result (IsWindowFor part) }
