@@ -1,5 +1,5 @@
 -- What a parse of a command gives: each word that has to stand is there.
-use Rattle.std.proofs.Common.{◌≡◌, ◌≢◌, ◌∙◌, ◌<◌, ◌≤◌, ◌&&◌, ◌⊎◌, ℕ, zero, suc, Bool, true, false, not, List, [], ◌∷◌, length, map, nat_eq, Option, Some, None, Result, Ok, Err, is_some, IfErr, IsErrAnd, codes, cond, option_and_then, option_map, unwrap_or, refl, sym, ap, ap₂, subst, Box, inl, inr, arith, true≢false}
+use Rattle.std.proofs.Common.{◌≡◌, ◌≢◌, ◌∙◌, ◌<◌, ◌≤◌, ◌&&◌, ◌⊎◌, ℕ, zero, suc, Bool, true, false, not, List, [], ◌∷◌, length, map, nat_eq, Option, Some, None, Result, Ok, Err, is_some, IfErr, IsErrAnd, codes, option_map, unwrap_or, refl, sym, ap, ap₂, subst, Box, inl, inr, arith, true≢false}
 use Rattle.std.specs.Borrow.{Bor}
 use Rattle.std.specs.Box.{box_value}
 use Rattle.std.specs.List.{slice_index_or}
@@ -22,7 +22,7 @@ use Rattle.clap.proofs.OnLiterals.{clap_on_literals}
 use Rattle.clap.proofs.WalkLemmas.{both, first_value-rows, one_text-rows, raw_values-rows}
 use Rattle.clap.proofs.CallerLemmas.{present_has_entry, required_has_value, required_present}
 use Rattle.clap.specs.declared.builder.action.ArgAction.TheVariants.{Set}
-use Rattle.command_lines.specs.ReadLine.{Asks, AsksDescription, AsksWindow, HasFound, HasLine, bounds_of, four_of, word_of}
+use Rattle.command_lines.specs.ReadLine.{Asks, AsksDescription, AsksWindow, HasFound, HasLine, word_of}
 use Rattle.command_lines.specs.ServeLine.{Tells, choice, flag, option, serve_app, serve_app_of, valued, words}
 use Rattle.command_lines.specs.declared.read.AskedWords.{AskedWords}
 use Rattle.command_lines.specs.declared.read.AskedWords.TheVariants.{Info}
@@ -375,48 +375,3 @@ other_asks name matches asked window describe is = record {
   description = λ e. absurd (describe e);
   info = λ no other. is;
 }
-
-is_four : (values : List (List ℕ)) → length values ≡ 4 → four_of values ≡ Some values
-is_four values is = ap (λ n. cond (nat_eq n 4) (Some values) None) is
-
--- the values of bounds, where there are four
-pub four_found : (f : Found) (o : Option (Bor (List (Bor (List ℕ))))) (v : Bor (List (Bor (List ℕ))))
-    → option_map (λ s. map (λ w. w.now) s.now) o ≡ option_map raw_values (matched_of f (codes "bounds")) → o ≡ Some v → length v.now ≡ 4
-    → Some (map (λ w. w.now) v.now) ≡ bounds_of (rows_of f)
-four_found f o v found is four =
-    let all = all_values f (rows_of f) (codes "bounds") o v refl found is in
-    let many : length (map (λ (w : Bor (List ℕ)). w.now) v.now) ≡ 4 = length-map v.now (λ (w : Bor (List ℕ)). w.now) ∙ four in
-    sym (ap (option_and_then four_of) all ∙ is_four (map (λ (w : Bor (List ℕ)). w.now) v.now) many)
-
--- another number of them
-pub not_four : (f : Found) (o : Option (Bor (List (Bor (List ℕ))))) (v : Bor (List (Bor (List ℕ))))
-    → option_map (λ s. map (λ w. w.now) s.now) o ≡ option_map raw_values (matched_of f (codes "bounds")) → o ≡ Some v → nat_eq (length v.now) 4 ≡ false
-    → None ≡ bounds_of (rows_of f)
-not_four f o v found is four =
-    let all = all_values f (rows_of f) (codes "bounds") o v refl found is in
-    let many : nat_eq (length (map (λ (w : Bor (List ℕ)). w.now) v.now)) 4 ≡ false = ap (λ n. nat_eq n 4) (length-map v.now (λ (w : Bor (List ℕ)). w.now)) ∙ four in
-    sym (ap (option_and_then four_of) all ∙ ap (λ b. cond b (Some (map (λ (w : Bor (List ℕ)). w.now) v.now)) None) many)
-
--- or none
-pub no_values : (f : Found) (o : Option (Bor (List (Bor (List ℕ)))))
-    → option_map (λ s. map (λ w. w.now) s.now) o ≡ option_map raw_values (matched_of f (codes "bounds")) → o ≡ None
-    → None ≡ bounds_of (rows_of f)
-no_values f o found is =
-    let texts : Option (Bor (List (Bor (List ℕ)))) → Option (List (List ℕ)) = option_map (λ (s : Bor (List (Bor (List ℕ)))). map (λ (w : Bor (List ℕ)). w.now) s.now) in
-    sym (ap (option_and_then four_of) (sym (raw_values-rows f (codes "bounds")) ∙ sym found ∙ ap texts is))
-
-four_items : {X : Type 0} (xs : List X) (d : X) → length xs ≡ 4
-    → xs ≡ slice_index_or xs 0 d ∷ slice_index_or xs 1 d ∷ slice_index_or xs 2 d ∷ slice_index_or xs 3 d ∷ []
-four_items [] d four = absurd (omega arith)
-four_items (w ∷ []) d four = absurd (omega arith)
-four_items (w ∷ s ∷ []) d four = absurd (omega arith)
-four_items (w ∷ s ∷ e ∷ []) d four = absurd (omega arith)
-four_items (w ∷ s ∷ e ∷ n ∷ []) d four = refl
-four_items (w ∷ s ∷ e ∷ n ∷ x ∷ more) d four = absurd (omega arith)
-
--- and their words
-pub four_values : (f : Found) (xs : List (Bor (List ℕ))) (d : Bor (List ℕ)) → Some (map (λ w. w.now) xs) ≡ bounds_of (rows_of f) → length xs ≡ 4
-    → bounds_of (rows_of f)
-    ≡ Some ((slice_index_or xs 0 d).now ∷ (slice_index_or xs 1 d).now ∷ (slice_index_or xs 2 d).now ∷ (slice_index_or xs 3 d).now ∷ [])
-four_values f xs d given four =
-    sym given ∙ ap (λ (l : List (Bor (List ℕ))). Some (map (λ (w : Bor (List ℕ)). w.now) l)) (four_items xs d four)

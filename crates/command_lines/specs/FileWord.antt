@@ -1,5 +1,5 @@
 -- How the words of `cogread` name a file.
-use Rattle.std.specs.Prelude.{◌≡◌, ◌&&◌, ◌||◌, ◌+◌, ◌-◌, ◌==◌, ◌++◌, ℕ, eqb, nat_lt, if◌then◌else◌, true, false, not, Bool, List, [], ◌∷◌, Option, None, Some, codes, length, slice_get, slice_index_or}
+use Rattle.std.specs.Prelude.{◌≡◌, ◌&&◌, ◌||◌, ◌+◌, ◌++◌, ℕ, eqb, nat_lt, if◌then◌else◌, true, false, not, Bool, List, [], ◌∷◌, Option, None, Some, codes, length, slice_get, slice_index_or}
 use Rattle.std.specs.List.{starts_with}
 use Rattle.std.specs.Str.{bytes_eq}
 use Rattle.command_lines.specs.FileUrl.{IsUrl}
@@ -14,24 +14,16 @@ abbrev pub is_spaced_option : List ℕ → Bool
 is_spaced_option word = bytes_eq word (codes "--requests") || (bytes_eq word (codes "--blocks") || (bytes_eq word (codes "--ahead")
     || (bytes_eq word (codes "--output") || (bytes_eq word (codes "--level") || bytes_eq word (codes "--columns")))))
 
--- how many of the next words are values of this one
-abbrev pub values_of : List ℕ → ℕ
-values_of word = if bytes_eq word (codes "--bounds") then 4 else if is_spaced_option word then 1 else 0
-
--- so many values are expected, and then any word
-abbrev pub expected_values : ℕ → Expected
-expected_values count = if count == 0 then Any else Value count
-
 -- the word stands for itself: it begins with no `-`, or is one
 abbrev pub is_place : Expected → List ℕ → Bool
 is_place Any word = not (starts_with eqb word (codes "-")) || bytes_eq word (codes "-")
-is_place (Value count) word = false
+is_place Value word = false
 is_place Place word = true
 
 -- what is expected after it
 abbrev pub expected_after : Expected → List ℕ → Expected
-expected_after Any word = if bytes_eq word (codes "--") then Place else expected_values (values_of word)
-expected_after (Value count) word = expected_values (count - 1)
+expected_after Any word = if bytes_eq word (codes "--") then Place else if is_spaced_option word then Value else Any
+expected_after Value word = Any
 expected_after Place word = Place
 
 -- the indices of the words that stand for themselves, of which the first has the index k
@@ -42,13 +34,9 @@ places expected k (word ∷ words) = (if is_place expected word then k ∷ [] el
 abbrev pub is_command : List ℕ → Bool
 is_command word = bytes_eq word (codes "window") || (bytes_eq word (codes "info") || bytes_eq word (codes "describe"))
 
--- a window is asked for without the words X Y W H
-abbrev pub has_no_sides : List (List ℕ) → Bool
-has_no_sides words = has_option (codes "--whole") words || has_option (codes "--bounds") words
-
 -- how many words stand for themselves in a whole line of this command
-abbrev pub words_needed : (command : List ℕ) (without_sides : Bool) → ℕ
-words_needed command without_sides = if bytes_eq command (codes "window") && not without_sides then 8 else 4
+abbrev pub words_needed : (command : List ℕ) (whole : Bool) → ℕ
+words_needed command whole = if bytes_eq command (codes "window") && not whole then 8 else 4
 
 -- the word behind the program's own name
 abbrev pub command_of : List (List ℕ) → List ℕ
@@ -56,7 +44,7 @@ command_of words = slice_index_or words 1 []
 
 -- the index of the word that stands where the server does, in a line of a command in which words are missing
 abbrev pub single_word : List (List ℕ) → Option ℕ
-single_word words = if is_command (command_of words) && nat_lt (length (places Any 0 words)) (words_needed (command_of words) (has_no_sides words))
+single_word words = if is_command (command_of words) && nat_lt (length (places Any 0 words)) (words_needed (command_of words) (has_option (codes "--whole") words))
     then slice_get (places Any 0 words) 2 else None
 
 -- Only a URL may be the first word. Otherwise a word may stand for a server and a name where the words of the command don't suffice.

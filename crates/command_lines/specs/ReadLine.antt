@@ -1,10 +1,9 @@
 -- What the words of `cogread` give, by the rows of a subcommand's matches.
-use Rattle.std.specs.Prelude.{◌≡◌, ◌≢◌, ◌==◌, if◌then◌else◌, true, false, length, List, [], ◌∷◌, Option, Some, None, ℕ, codes, option_and_then, option_map, unwrap_or}
-use Rattle.clap.specs.Words.{Row, all_of, first_of, one_of}
+use Rattle.std.specs.Prelude.{◌≡◌, ◌≢◌, true, false, List, [], Option, Some, None, ℕ, codes, option_map, unwrap_or}
+use Rattle.clap.specs.Words.{Row, first_of, one_of}
 use Rattle.command_lines.specs.ServeLine.{Tells}
 use Rattle.command_lines.specs.declared.read.AskedWords.{AskedWords}
-use Rattle.command_lines.specs.declared.read.AskedWords.TheVariants.{Bounds, Description, Info, Whole, Window}
-use Rattle.command_lines.specs.declared.read.BoundsWords.{BoundsWords}
+use Rattle.command_lines.specs.declared.read.AskedWords.TheVariants.{Description, Info, Whole, Window}
 use Rattle.command_lines.specs.declared.read.ReadLine.{ReadLine}
 use Rattle.command_lines.specs.declared.read.WindowWords.{WindowWords}
 
@@ -31,32 +30,12 @@ pub record HasLine (matches : List Row) (line : ReadLine) : Type 0 where
   pub keep : Tells (one_of (codes "keep") matches) line.keep
   pub close : Tells (one_of (codes "close") matches) line.close
   pub output : first_of (codes "output") matches ≡ option_map (λ word. word.now) line.output
-  pub world : Tells (one_of (codes "world") matches) line.world
   pub verbose : Tells (one_of (codes "verbose") matches) line.verbose
   pub progress : Tells (one_of (codes "progress") matches) line.progress
 
--- these values, if there are four
-abbrev pub four_of : List (List ℕ) → Option (List (List ℕ))
-four_of values = if length values == 4 then Some values else None
-
--- the values of bounds
-abbrev pub bounds_of : List Row → Option (List (List ℕ))
-bounds_of matches = option_and_then four_of (all_of (codes "bounds") matches)
-
--- the bounds have these values
-abbrev pub values_of : BoundsWords → List (List ℕ)
-values_of bounds = bounds.west.now ∷ bounds.south.now ∷ bounds.east.now ∷ bounds.north.now ∷ []
-
--- the bounds, and what is picked by them, have the values of these matches
-pub record HasBounds (matches : List Row) (bounds : BoundsWords) : Type 0 where
-  pub values : bounds_of matches ≡ Some (values_of bounds)
-  pub level : first_of (codes "level") matches ≡ option_map (λ word. word.now) bounds.level
-  pub columns : first_of (codes "columns") matches ≡ option_map (λ word. word.now) bounds.columns
-
--- A window, the window of bounds or the whole of a level is asked for by these matches.
+-- A window or the whole of a level is asked for by these matches.
 abbrev pub AsksWindow : List Row → AskedWords → Type 0
-AsksWindow matches (Window window) = Tells (one_of (codes "whole") matches) false × (bounds_of matches ≡ None) × HasWindow matches window
-AsksWindow matches (Bounds bounds) = Tells (one_of (codes "whole") matches) false × HasBounds matches bounds
+AsksWindow matches (Window window) = Tells (one_of (codes "whole") matches) false × HasWindow matches window
 AsksWindow matches (Whole level) = Tells (one_of (codes "whole") matches) true × (first_of (codes "level") matches ≡ option_map (λ word. word.now) level)
 AsksWindow matches asked = ⊥
 

@@ -1,7 +1,7 @@
 //! How the words of `cogread` name a file: by a server and a name, or by one word in their place.
 ghost use Rattle.std.specs.Prelude.{◌≡◌, ◌+◌, ◌++◌, ◌∷◌, ◌<◌, [], if◌then◌else◌, IfOk, OnOk, codes, drop, eqb, length, map, take};
 ghost use Rattle.std.specs.List.{starts_with};
-ghost use Rattle.command_lines.specs.FileWord.{IsFileWord, expected_after, expected_values, has_no_sides, is_command, is_place, is_spaced_option, places, single_word, values_of, words_needed};
+ghost use Rattle.command_lines.specs.FileWord.{IsFileWord, expected_after, is_command, is_place, is_spaced_option, places, single_word, words_needed};
 ghost use Rattle.command_lines.specs.declared.file_words.Expected.TheVariants.{Any};
 
 use crate::quick::has_option;
@@ -14,8 +14,8 @@ use std::convert::AsStr;
 enum Expected {
     /// An option, or a word that stands for itself.
     Any,
-    /// A value of the option before it, of which so many are left.
-    Value(u8),
+    /// The value of the option before it.
+    Value,
     /// A word that stands for itself, since `--` stood before it.
     Place,
 }
@@ -43,30 +43,6 @@ fn is_spaced_option(word: &str) -> bool
         || word == "--columns"
 }
 
-/// Returns how many of the next words are values of this one.
-fn values_of(word: &str) -> u8
-    ensures { result ≡ values_of word.now }
-{
-    if word == "--bounds" {
-        4
-    } else if is_spaced_option(word) {
-        1
-    } else {
-        0
-    }
-}
-
-/// Returns what is expected where so many values of an option are left.
-fn expected_values(count: u8) -> Expected
-    ensures { result ≡ expected_values count }
-{
-    if count == 0 {
-        Expected::Any
-    } else {
-        Expected::Value(count)
-    }
-}
-
 /// Returns whether a word begins with `-`.
 fn begins_with_dash(word: &str) -> bool
     ensures { result ≡ starts_with eqb word.now (codes "-") }
@@ -80,7 +56,7 @@ fn is_place(expected: Expected, word: &str) -> bool
 {
     match expected {
         Expected::Any => !begins_with_dash(word) || word == "-",
-        Expected::Value(_) => false,
+        Expected::Value => false,
         Expected::Place => true,
     }
 }
@@ -91,9 +67,9 @@ fn expected_after(expected: Expected, word: &str) -> Expected
 {
     match expected {
         Expected::Any if word == "--" => Expected::Place,
-        Expected::Any => expected_values(values_of(word)),
-        Expected::Value(count) => expected_values(count.saturating_sub(1)),
-        Expected::Place => Expected::Place,
+        Expected::Any if is_spaced_option(word) => Expected::Value,
+        Expected::Value => Expected::Any,
+        other => other,
     }
 }
 
@@ -133,19 +109,12 @@ fn is_command(word: &str) -> bool
     word == "window" || word == "info" || word == "describe"
 }
 
-/// Returns whether a window is asked for without the words X Y W H.
-fn has_no_sides<S: AsStr>(words: &[S]) -> bool
-    ensures { result ≡ has_no_sides (map S.text words.now) }
-{
-    has_option(words, "--whole") || has_option(words, "--bounds")
-}
-
 /// Returns how many words stand for themselves in a whole line of a command: the program's own name, the command, SERVER and NAME, and
 /// the sides of a window.
-fn words_needed(command: &str, without_sides: bool) -> usize
-    ensures { result ≡ words_needed command.now without_sides }
+fn words_needed(command: &str, is_whole: bool) -> usize
+    ensures { result ≡ words_needed command.now is_whole }
 {
-    if command == "window" && !without_sides {
+    if command == "window" && !is_whole {
         8
     } else {
         4
@@ -161,7 +130,7 @@ fn single_word<S: AsStr>(alloc: Global, words: &[S]) -> Result<Option<usize>, Al
     };
     let command = command.as_str();
     let found = places(alloc, words)?;
-    if is_command(command) && found.len() < words_needed(command, has_no_sides(words)) {
+    if is_command(command) && found.len() < words_needed(command, has_option(words, "--whole")) {
         Ok(found.get(2).copied())
     } else {
         Ok(None)

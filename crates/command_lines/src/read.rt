@@ -1,11 +1,11 @@
 //! The command line of `cogread`.
-ghost use Rattle.std.specs.Prelude.{◌≡◌, IfSome, MatchOption, None, length, map, option_map};
+ghost use Rattle.std.specs.Prelude.{◌≡◌};
 ghost use Rattle.clap.specs.Words.{found_of, rows_of, subcommand_rows_of};
-ghost use Rattle.command_lines.specs.ReadLine.{AsksDescription, AsksWindow, HasBounds, HasFound, HasLine, HasWindow, bounds_of, word_of};
+ghost use Rattle.command_lines.specs.ReadLine.{AsksDescription, AsksWindow, HasFound, HasLine, HasWindow, word_of};
 
 use crate::arguments::{add, add_choice, add_flag, choice, flag};
 use crate::help::{READ_NOTES, VERSION};
-use clap::{Arg, ArgAction, ArgMatches, Command, Error};
+use clap::{Arg, ArgMatches, Command, Error};
 use std::alloc::{AllocError, Global};
 use std::convert::AsStr;
 
@@ -25,8 +25,6 @@ pub struct ReadLine<'a> {
     pub close: bool,
     /// Where the report is written, if not to standard output.
     pub output: Option<&'a str>,
-    /// Whether a world file is written beside it.
-    pub world: bool,
     /// Whether each exchange is told.
     pub verbose: bool,
     /// Whether it is drawn how far the exchanges have come.
@@ -40,8 +38,6 @@ pub enum AskedWords<'a> {
     /// A description, in JSON or in words.
     Description { is_json: bool },
     Window(WindowWords<'a>),
-    /// The window that covers bounds.
-    Bounds(BoundsWords<'a>),
     /// The whole of a level, if one is picked.
     Whole { level: Option<&'a str> },
 }
@@ -57,22 +53,10 @@ pub struct WindowWords<'a> {
     pub columns: Option<&'a str>,
 }
 
-/// The bounds of a window in the coordinates of the file, and the level that is picked, if one is.
-#[derive(Clone, Copy, Debug, PartialEq, Eq)]
-pub struct BoundsWords<'a> {
-    pub west: &'a str,
-    pub south: &'a str,
-    pub east: &'a str,
-    pub north: &'a str,
-    pub level: Option<&'a str>,
-    pub columns: Option<&'a str>,
-}
-
 const WINDOW_EXAMPLE: &str = "\
 Example:
   cogtools cogread window 127.0.0.1:8080 a.tif 0 0 256 256 > window.pgm
   cogtools cogread window http://127.0.0.1:8080/a.tif 0 0 256 256 --output window.pgm
-  cogtools cogread window http://127.0.0.1:8080/a.tif --bounds 106.1 47.5 106.3 47.9 --output window.pgm
 
 http://HOST[:PORT]/NAME stands for SERVER NAME, and its connection is kept. So does the path of a file of the disk.";
 
@@ -108,13 +92,7 @@ fn add_word<'a>(
     add(arguments, Arg::new(alloc, name).help(help).required(true))
 }
 
-/// The options in the place of X Y W H.
-const WITHOUT_SIDES: [&str; 2] = ["whole", "bounds"];
-
-/// The words of bounds.
-const BOUNDS: [&str; 4] = ["WEST", "SOUTH", "EAST", "NORTH"];
-
-/// Adds a word that has to stand where neither the whole of a level nor bounds are asked for.
+/// Adds a word that has to stand where the whole of a level isn't asked for.
 fn add_side<'a>(
     alloc: Global,
     arguments: &mut Vec<Arg<'a>>,
@@ -122,8 +100,8 @@ fn add_side<'a>(
     help: &'a str,
 ) -> Result<(), AllocError> {
     let side = Arg::new(alloc, name).help(help);
-    let side = side.required_unless_present_any(&WITHOUT_SIDES)?;
-    try_add(arguments, side.conflicts_with_all(&WITHOUT_SIDES))
+    let side = side.required_unless_present("whole")?;
+    try_add(arguments, side.conflicts_with("whole"))
 }
 
 /// Adds an option without a value, which doesn't stand beside another option.
@@ -190,40 +168,16 @@ fn add_sides<'a>(alloc: Global, arguments: &mut Vec<Arg<'a>>) -> Result<(), Allo
     add_side(alloc, arguments, "H", "The height, in pixels")
 }
 
-/// Adds the option of the window that covers bounds.
-fn add_bounds<'a>(alloc: Global, arguments: &mut Vec<Arg<'a>>) -> Result<(), AllocError> {
-    let help =
-        "The window that covers these bounds in the file's own coordinates, outwards to whole pixels, in the place of X Y W H";
-    let bounds = Arg::new(alloc, "bounds")
-        .long("bounds")
-        .help(help)
-        .num_args(4)
-        .value_names(&BOUNDS)
-        .allow_negative_numbers(true)
-        .action(ArgAction::Set);
-    try_add(arguments, bounds.conflicts_with("whole"))
-}
-
-/// Adds the option of the world file.
-fn add_world<'a>(alloc: Global, arguments: &mut Vec<Arg<'a>>) -> Result<(), AllocError> {
-    let help =
-        "Also writes where the window lies, as a world file beside --output, with the ending .wld";
-    let world = flag(alloc, "world", help).requires_arg("output")?;
-    try_add(arguments, world.conflicts_with("columns"))
-}
-
 /// Adds the options of which level is read, and how much of it.
 fn add_levels<'a>(alloc: Global, arguments: &mut Vec<Arg<'a>>) -> Result<(), AllocError> {
     let help = "The level, 0 for the largest (default 0)";
     let level = choice(alloc, "level", "N", help).conflicts_with("columns");
     try_add(arguments, level)?;
-    add_bounds(alloc, arguments)?;
     let help =
         "The smallest level in which the window is at least C columns wide; X Y W H are then of level 0 (no default)";
     add_choice(alloc, arguments, "columns", "C", help)?;
     let help = "The whole of the level, in the place of X Y W H";
-    add_flag_without(alloc, arguments, "whole", "columns", help)?;
-    add_world(alloc, arguments)
+    add_flag_without(alloc, arguments, "whole", "columns", help)
 }
 
 /// Adds a command with these words and options.
@@ -319,32 +273,6 @@ fn words_of_window<'a>(matches: &ArgMatches<'a>) -> WindowWords<'a>
     }
 }
 
-/// The four values of bounds, if they stand.
-fn bounds_values<'m, 'a>(matches: &'m ArgMatches<'a>) -> Option<&'m [&'a str]>
-    ensures values { option_map (λ values. map (λ word. word.now) values.now) result ≡ bounds_of (rows_of (found_of matches.entry.now)) }
-    ensures four { IfSome result (λ values. length values.now ≡ 4) }
-{
-    match matches.get_strs("bounds") {
-        Some(values) if values.len() == 4 => Some(values),
-        _ => None,
-    }
-}
-
-/// The words of bounds, if they stand.
-fn words_of_bounds<'a>(matches: &ArgMatches<'a>) -> Option<BoundsWords<'a>>
-    ensures { MatchOption result (bounds_of (rows_of (found_of matches.now)) ≡ None) (HasBounds (rows_of (found_of matches.now))) }
-{
-    let values = bounds_values(matches)?;
-    Some(BoundsWords {
-        west: values[0],
-        south: values[1],
-        east: values[2],
-        north: values[3],
-        level: matches.get_str("level"),
-        columns: matches.get_str("columns"),
-    })
-}
-
 fn window_words<'a>(matches: &ArgMatches<'a>) -> AskedWords<'a>
     ensures { AsksWindow (rows_of (found_of matches.now)) result }
 {
@@ -353,10 +281,7 @@ fn window_words<'a>(matches: &ArgMatches<'a>) -> AskedWords<'a>
             level: matches.get_str("level"),
         };
     }
-    match words_of_bounds(matches) {
-        Some(bounds) => AskedWords::Bounds(bounds),
-        None => AskedWords::Window(words_of_window(matches)),
-    }
+    AskedWords::Window(words_of_window(matches))
 }
 
 fn description_words(matches: &ArgMatches<'_>) -> AskedWords<'static>
@@ -382,7 +307,6 @@ fn line_of<'a>(matches: &ArgMatches<'a>, asked: AskedWords<'a>) -> ReadLine<'a>
         keep: matches.get_flag("keep"),
         close: matches.get_flag("close"),
         output: matches.get_str("output"),
-        world: matches.get_flag("world"),
         verbose: matches.get_flag("verbose"),
         progress: matches.get_flag("progress"),
     }

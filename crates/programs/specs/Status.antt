@@ -8,7 +8,7 @@ use Rattle.read_command.specs.declared.error.ReadError.{ReadError}
 use Rattle.read_command.specs.declared.error.ReadError.TheVariants as reading
 use Rattle.programs.specs.declared.exit.Exit.{Exit}
 use Rattle.programs.specs.declared.exit.Exit.TheVariants.{NotText, NotAProgram, CommandLine, NotANumber, NotAFile, NotAnOrigin, OneName, NoClock, Script}
-use Rattle.programs.specs.declared.exit.Exit.TheVariants.{RefusedClient, NotAFileUrl, OfFile, Explained, NoBounds, NoReport, NotUsed, CantRead, Refused, CantListen, CantAccept, CantWait, CantWrite, CantWriteFile, Memory, ReaderGone}
+use Rattle.programs.specs.declared.exit.Exit.TheVariants.{RefusedClient, NotAFileUrl, OfFile, Explained, NoReport, NotUsed, CantRead, Refused, CantListen, CantAccept, CantWait, CantWrite, CantWriteFile, Memory, ReaderGone}
 
 -- 0 where help or the version is asked for, and 2 where the words aren't the program's
 abbrev pub line_status : ErrorKind → ℕ
@@ -16,7 +16,7 @@ line_status kind.DisplayHelp = 0
 line_status kind.DisplayVersion = 0
 line_status k = 2
 
--- 1 for files, sockets, publications and memory, 2 for the command line and scripts, 3 for a fault of the file that is read or where bounds have no window in it, 4
+-- 1 for files, sockets, publications and memory, 2 for the command line and scripts, 3 for a fault of the file that is read, 4
 -- where there is no report; to ask for help is no fault
 abbrev pub HasStatus : Exit → ℕ → Type 0
 HasStatus NotText n = n ≡ 2
@@ -30,7 +30,6 @@ HasStatus (RefusedClient refusal) n = n ≡ 2
 HasStatus (NotAFileUrl word error) n = n ≡ 2
 HasStatus (OfFile fault) n = n ≡ 3
 HasStatus (Explained fault) n = n ≡ 3
-HasStatus (NoBounds why) n = n ≡ 3
 HasStatus NoReport n = n ≡ 4
 HasStatus (NotUsed why) n = n ≡ 4
 HasStatus (Script (script.NotAnEvent line)) n = n ≡ 2
@@ -59,12 +58,6 @@ EndsBy false fault n = (HasStatus fault n × (n ≢ 0)) ⊎ (HasStatus fault 0 �
 -- the fault that tells why there is no text of a file
 abbrev pub exit_of_reading : ReadError → Exit
 exit_of_reading (reading.OfFile fault) = OfFile fault
-exit_of_reading (reading.NotPlaced why) = NoBounds why
 exit_of_reading reading.NoReport = NoReport
 exit_of_reading (reading.NotUsed why) = NotUsed why
 exit_of_reading reading.Memory = Memory
-
--- the fault with the explanation of its line, where it is a fault of a file
-abbrev pub explained_of : Exit → Exit
-explained_of (OfFile fault) = Explained fault
-explained_of fault = fault

@@ -1,15 +1,14 @@
 -- What the words of `cogread` ask for, and the numbers of its options and of `cogserve`'s.
-use Rattle.std.specs.Prelude.{◌≡◌, ◌⊎◌, ℕ, ◌*◌, ◌^◌, ◌-◌, true, false, List, Option, Some, None, IsSome, option_and_then, option_map}
+use Rattle.std.specs.Prelude.{◌≡◌, ◌⊎◌, ℕ, ◌^◌, ◌-◌, true, false, List, Option, Some, None, IsSome, option_and_then}
 use Rattle.std.specs.Option.{option_copied}
 use Rattle.tiff_dir.specs.declared.query.Query.{Query}
 use Rattle.tiff_dir.specs.declared.query.Query.TheVariants.{Window, Info}
 use Rattle.tiff_dir.specs.declared.query.Pick.{Pick}
 use Rattle.tiff_dir.specs.declared.query.Pick.TheVariants.{Level, Columns}
 use Rattle.text_description.specs.declared.description.Form.TheVariants.{Words, Json}
-use Rattle.command_lines.specs.Number.{coordinate_from, number_from}
+use Rattle.command_lines.specs.Number.{number_from}
 use Rattle.command_lines.specs.declared.read.AskedWords.{AskedWords}
 use Rattle.command_lines.specs.declared.read.AskedWords.TheVariants as words
-use Rattle.command_lines.specs.declared.read.BoundsWords.{BoundsWords}
 use Rattle.command_lines.specs.declared.read.ReadLine.{ReadLine}
 use Rattle.command_lines.specs.declared.read.WindowWords.{WindowWords}
 use Rattle.cog_client.specs.declared.error.ClientError.{ClientError}
@@ -17,9 +16,6 @@ use Rattle.programs.specs.declared.exit.Exit.{Exit}
 use Rattle.programs.specs.declared.exit.Exit.TheVariants.{Memory, RefusedClient}
 use Rattle.read_command.specs.declared.reading.Asked.{Asked}
 use Rattle.read_command.specs.declared.reading.Asked.TheVariants as asked
-use Rattle.read_command.specs.declared.reading.Part.{Part}
-use Rattle.read_command.specs.declared.reading.Part.TheVariants as part
-use Rattle.text_description.specs.declared.bounds.Bounds.{Bounds}
 use Rattle.programs.specs.Number.{number_or}
 
 -- a number of 32 bits
@@ -41,26 +37,13 @@ IsWindow words (Window x y w h pick) = (number_32 words.x.now ≡ Some x) × (nu
     × (number_32 words.h.now ≡ Some h) × IsPick (option_copied words.level) (option_copied words.columns) pick
 IsWindow words Info = ⊥
 
--- the bounds have the numbers of their words
-pub record HaveNumbers (words : BoundsWords) (bounds : Bounds) : Type 0 where
-  pub west : coordinate_from words.west.now ≡ Some bounds.west
-  pub south : coordinate_from words.south.now ≡ Some bounds.south
-  pub east : coordinate_from words.east.now ≡ Some bounds.east
-  pub north : coordinate_from words.north.now ≡ Some bounds.north
-
--- so does the window, whose level is picked by theirs
-abbrev pub IsBounds : BoundsWords → Part → Type 0
-IsBounds words (part.Bounds bounds pick) = HaveNumbers words bounds × IsPick (option_copied words.level) (option_copied words.columns) pick
-IsBounds words (part.Whole level) = ⊥
-
 -- this is what the words ask for
 abbrev pub IsAsked : AskedWords → Asked → Type 0
 IsAsked words.Info a = a ≡ asked.Query Info
 IsAsked (words.Description true) a = a ≡ asked.Description Json
 IsAsked (words.Description false) a = a ≡ asked.Description Words
 IsAsked (words.Window window) (asked.Query query) = IsWindow window query
-IsAsked (words.Bounds bounds) (asked.Part p) = IsBounds bounds p
-IsAsked (words.Whole level) (asked.Part (part.Whole n)) = level_number (option_copied level) ≡ Some n
+IsAsked (words.Whole level) (asked.Whole n) = level_number (option_copied level) ≡ Some n
 IsAsked w a = ⊥
 
 -- no level is picked by these words: the number of columns, or without it that of the level, is none
@@ -73,18 +56,11 @@ abbrev pub IsNoWindow : WindowWords → Type 0
 IsNoWindow words = (number_32 words.x.now ≡ None) ⊎ (number_32 words.y.now ≡ None) ⊎ (number_32 words.w.now ≡ None)
     ⊎ (number_32 words.h.now ≡ None) ⊎ IsNoPick (option_copied words.level) (option_copied words.columns)
 
--- one of the words of bounds is no number
-abbrev pub IsNoBounds : BoundsWords → Type 0
-IsNoBounds words = (coordinate_from words.west.now ≡ None) ⊎ (coordinate_from words.south.now ≡ None)
-    ⊎ (coordinate_from words.east.now ≡ None) ⊎ (coordinate_from words.north.now ≡ None)
-    ⊎ IsNoPick (option_copied words.level) (option_copied words.columns)
-
 -- the words ask for nothing, since one of them is no number
 abbrev pub AsksNothing : AskedWords → Type 0
 AsksNothing words.Info = ⊥
 AsksNothing (words.Description json) = ⊥
 AsksNothing (words.Window window) = IsNoWindow window
-AsksNothing (words.Bounds bounds) = IsNoBounds bounds
 AsksNothing (words.Whole level) = level_number (option_copied level) ≡ None
 
 -- how many exchanges at most, how many blocks are kept, and how many blocks a request may ask for behind those that are needed next, by the
@@ -114,16 +90,9 @@ at_once_number word = number_or 1 10000 256 word
 abbrev pub patience_number : Option (List ℕ) → Option ℕ
 patience_number word = number_or 1 3600 60 word
 
--- after how many milliseconds at least the bytes of files that seem unchanged are compared again, where a word says so in seconds; else they
--- never are
-abbrev pub IsVerify : Option (List ℕ) → Option ℕ → Type 0
-IsVerify None millis = millis ≡ None
-IsVerify (Some word) millis = (option_map (λ seconds. seconds * 1000) (number_from 1 86400 word) ≡ millis) × IsSome millis
-
--- a word stands there that is no such number
-abbrev pub IsNoVerify : Option (List ℕ) → Type 0
-IsNoVerify None = ⊥
-IsNoVerify (Some word) = number_from 1 86400 word ≡ None
+-- after how many seconds at least the bytes of files that seem unchanged are compared again, if they are; 0 stands for never
+abbrev pub verify_number : Option (List ℕ) → Option ℕ
+verify_number word = number_or 1 86400 0 word
 
 -- a word that says something of connections is no number within its bounds
 abbrev pub HasNoLimit : (connections : List ℕ) (at_once patience : Option (List ℕ)) → Type 0

@@ -1,32 +1,30 @@
 //! `cogread`: reads a window, the info or a description of a file over sockets.
-ghost use Rattle.std.specs.Prelude.{◌≡◌, ◌<◌, Err, IfErr, IfOk, IsOk, OnErr, OnOk, Some, length};
+ghost use Rattle.std.specs.Prelude.{◌≡◌, ◌<◌, IfErr, IfOk, OnErr, Some, length};
 ghost use Rattle.std.specs.Option.{option_copied};
 ghost use Rattle.cog_client.specs.Calls.{Starts};
 ghost use Rattle.cog_client.specs.Client.{client_refusal};
 ghost use Rattle.programs.specs.Number.{IsOfNumber};
-ghost use Rattle.programs.specs.Status.{explained_of};
-ghost use Rattle.programs.specs.Words.{AsksNothing, HasNoNumber, IsAsked, IsBounds, IsNoBounds, IsNoClient, IsNoPick, IsNoWindow, IsPick, IsWindow, ahead_number, blocks_number, requests_number};
+ghost use Rattle.programs.specs.Words.{AsksNothing, HasNoNumber, IsAsked, IsNoClient, IsNoPick, IsNoWindow, IsPick, IsWindow, ahead_number, blocks_number, requests_number};
 
 use crate::exit::Exit;
 use crate::local;
 use crate::local::{is_plain_file, server_of_file, source_of};
-use crate::number::{coordinate, number, number_or};
+use crate::number::{number, number_or};
 use client_sockets::Socket;
 use cog_client::{Client, ClientError, Pieces, Query};
 use command_lines::{
-    AskedWords, BoundsWords, FileUrl, FileUrlError, FileWord, ReadLine, WindowWords, file_url,
-    file_word, is_url, read_line, words_instead,
+    AskedWords, FileUrl, FileUrlError, FileWord, ReadLine, WindowWords, file_url, file_word,
+    is_url, read_line, words_instead,
 };
 use disk_files::replace_file;
 use range_cache::{MAX_CAPACITY, MIN_CAPACITY};
-use read_command::{Asked, Exchanges, Part, ReadError, Text, Verbosity};
+use read_command::{Asked, Exchanges, ReadError, Text, Verbosity};
 use read_progress::{Noted, NotedNet, RefusalSentence};
 use std::alloc::{AllocError, Global};
 use std::io;
 use std::net::{Net, TcpStream};
-use std::path::Path;
 use std::rt::{Clock, Files};
-use text_description::{Bounds, Form, WorldFile};
+use text_description::Form;
 use tiff_dir::Pick;
 
 /// How many blocks are asked for early where a URL or a path names the file.
@@ -44,14 +42,14 @@ struct Numbers {
     ahead: u32,
 }
 
-fn pick<R: AllocGlobal>(rt: &R, level: Option<&str>, columns: Option<&str>) -> Result<Pick, Exit>
-    ensures ok { IfOk result (IsPick (option_copied level.entry) (option_copied columns.entry)) }
-    ensures err { OnErr result (IsNoPick (option_copied level.entry) (option_copied columns.entry)) }
+fn pick<R: AllocGlobal>(rt: &R, words: &WindowWords<'_>) -> Result<Pick, Exit>
+    ensures ok { IfOk result (IsPick (option_copied words.now.level) (option_copied words.now.columns)) }
+    ensures err { OnErr result (IsNoPick (option_copied words.now.level) (option_copied words.now.columns)) }
     ensures kinds { IfErr result IsOfNumber }
 {
-    match columns {
+    match words.columns {
         Some(columns) => Ok(Pick::Columns(number(rt, columns, 0, u32::MAX)?)),
-        None => Ok(Pick::Level(number_or(rt, level, 0, u32::MAX, 0)?)),
+        None => Ok(Pick::Level(number_or(rt, words.level, 0, u32::MAX, 0)?)),
     }
 }
 
@@ -65,23 +63,8 @@ fn window<R: AllocGlobal>(rt: &R, words: &WindowWords<'_>) -> Result<Query, Exit
         y: number(rt, words.y, 0, u32::MAX)?,
         w: number(rt, words.w, 0, u32::MAX)?,
         h: number(rt, words.h, 0, u32::MAX)?,
-        pick: pick(rt, words.level, words.columns)?,
+        pick: pick(rt, words)?,
     })
-}
-
-fn bounds<R: AllocGlobal>(rt: &R, words: &BoundsWords<'_>) -> Result<Part, Exit>
-    ensures ok { IfOk result (IsBounds words.now) }
-    ensures err { OnErr result (IsNoBounds words.now) }
-    ensures kinds { IfErr result IsOfNumber }
-{
-    let bounds = Bounds {
-        west: coordinate(rt, words.west)?,
-        south: coordinate(rt, words.south)?,
-        east: coordinate(rt, words.east)?,
-        north: coordinate(rt, words.north)?,
-    };
-    let pick = pick(rt, words.level, words.columns)?;
-    Ok(Part::Bounds { bounds, pick })
 }
 
 fn asked<R: AllocGlobal>(rt: &R, words: AskedWords<'_>) -> Result<Asked, Exit>
@@ -94,10 +77,9 @@ fn asked<R: AllocGlobal>(rt: &R, words: AskedWords<'_>) -> Result<Asked, Exit>
         AskedWords::Description { is_json: true } => Ok(Asked::Description(Form::Json)),
         AskedWords::Description { is_json: false } => Ok(Asked::Description(Form::Words)),
         AskedWords::Window(words) => Ok(Asked::Query(window(rt, &words)?)),
-        AskedWords::Bounds(words) => Ok(Asked::Part(bounds(rt, &words)?)),
-        AskedWords::Whole { level } => Ok(Asked::Part(Part::Whole {
+        AskedWords::Whole { level } => Ok(Asked::Whole {
             level: number_or(rt, level, 0, u32::MAX, 0)?,
-        })),
+        }),
     }
 }
 
@@ -148,13 +130,6 @@ fn client_of<R: Eprint + AllocGlobal>(
     }
 }
 
-/// What is read of a file: its text, and what places the window, if that is asked for.
-#[derive(Drop)]
-struct Reading<'c> {
-    text: Text<'c>,
-    world: Option<WorldFile>,
-}
-
 /// What a line asks for, over sockets, which are closed then. Here is the place of blocks that are read ahead.
 fn text_of_line<'c, R>(
     rt: &R,
@@ -162,7 +137,7 @@ fn text_of_line<'c, R>(
     numbers: Numbers,
     client: &'c mut Client,
     is_url: bool,
-) -> Result<Reading<'c>, ReadError>
+) -> Result<Text<'c>, ReadError>
 where
     R: Clock + Eprint + AllocGlobal + Net<Stream = TcpStream>,
 {
@@ -185,7 +160,7 @@ fn text_of_source<'c, R, P: Pieces + Drop>(
     client: &'c mut Client,
     source: P,
     is_url: bool,
-) -> Result<Reading<'c>, ReadError>
+) -> Result<Text<'c>, ReadError>
 where
     R: Clock + Eprint + AllocGlobal,
 {
@@ -197,48 +172,18 @@ where
         verbosity: telling_of(line),
         is_url,
     };
-    if line.world {
-        let placed = exchanges.placed(client, &mut noted, numbers.asked)?;
-        return Ok(Reading {
-            text: Text::from(placed.picture),
-            world: Some(placed.world),
-        });
-    }
-    Ok(Reading {
-        text: exchanges.text(client, &mut noted, numbers.asked)?,
-        world: None,
-    })
+    exchanges.text(client, &mut noted, numbers.asked)
 }
 
-/// Writes what is read to a line's file, with the world file beside it, or to standard output.
-fn write_reading<R>(rt: &R, line: &ReadLine<'_>, reading: &Reading<'_>) -> Result<(), Exit>
+/// Writes a text to a line's file, or to standard output.
+fn write_text<R>(rt: &R, line: &ReadLine<'_>, text: &Text<'_>) -> Result<(), Exit>
 where
     R: Files + Print + Eprint + AllocGlobal,
 {
     let Some(path) = line.output else {
-        return Ok(reading.text.write_to(&mut io::writer(rt))?);
+        return Ok(text.write_to(&mut io::writer(rt))?);
     };
-    write_file(rt, line, path, &reading.text.head, reading.text.samples)?;
-    let Some(world) = reading.world else {
-        return Ok(());
-    };
-    let text = format!(in rt.alloc(); "{world}")?;
-    let path = Path::new(path).with_extension(rt.alloc(), "wld")?;
-    write_file(rt, line, path.as_str(), text.as_bytes(), &[])
-}
-
-/// Writes a file, which is replaced once all is there.
-fn write_file<R>(
-    rt: &R,
-    line: &ReadLine<'_>,
-    path: &str,
-    head: &[u8],
-    samples: &[u8],
-) -> Result<(), Exit>
-where
-    R: Files + Eprint + AllocGlobal,
-{
-    match replace_file(rt, path, head, samples) {
+    match replace_file(rt, path, &text.head, text.samples) {
         Ok(()) => Ok(()),
         Err(error) if error.kind() == io::ErrorKind::OutOfMemory => Err(Exit::Memory),
         Err(error) => {
@@ -257,8 +202,8 @@ where
 {
     let numbers = numbers_of(rt, line)?;
     let mut client = client_of(rt, line, numbers.blocks)?;
-    let reading = text_of_line(rt, line, numbers, &mut client, is_url)?;
-    write_reading(rt, line, &reading)
+    let text = text_of_line(rt, line, numbers, &mut client, is_url)?;
+    write_text(rt, line, &text)
 }
 
 /// Reads what a line asks for of the file of the disk at a path, and writes it.
@@ -272,8 +217,8 @@ where
     let server = server_of_file(rt, path)?;
     let source = source_of(rt.alloc(), &server);
     let net = NotedNet::new(rt);
-    let reading = text_of_source(rt, &net, line, numbers, &mut client, source, true)?;
-    write_reading(rt, line, &reading)
+    let text = text_of_source(rt, &net, line, numbers, &mut client, source, true)?;
+    write_text(rt, line, &text)
 }
 
 /// Returns the file that a URL names.
@@ -317,10 +262,7 @@ where
 }
 
 /// Has the fault of a file explained, as the forms do that name a URL or a file of the disk.
-fn explained(ended: Result<(), Exit>) -> Result<(), Exit>
-    ensures ok { OnOk ended.entry (IsOk result) }
-    ensures err { IfErr ended.entry (λ fault. result ≡ Err (explained_of fault)) }
-{
+fn explained(ended: Result<(), Exit>) -> Result<(), Exit> {
     match ended {
         Err(Exit::OfFile(fault)) => Err(Exit::Explained(fault)),
         ended => ended,

@@ -1,10 +1,10 @@
 //! `cogserve`: publishes files of the disk and serves them over many connections at once.
-ghost use Rattle.std.specs.Prelude.{◌≡◌, ◌*◌, ◌++◌, ◌∷◌, [], IfErr, IfOk, Ok, OnErr, OnOk, Some, option_map};
+ghost use Rattle.std.specs.Prelude.{◌≡◌, ◌*◌, ◌++◌, ◌∷◌, [], IfErr, IfOk, None, Ok, OnErr, OnOk, Some, option_map, ◌==◌, if◌then◌else◌};
 ghost use Rattle.std.specs.Int.NonZero.{non_zero_usize_get};
 ghost use Rattle.std.specs.Option.{option_copied};
 ghost use Rattle.programs.specs.Files.{AreFiles, IsFile, IsNoFile, IsOfFiles, NamesFile, NamesOneOf};
 ghost use Rattle.programs.specs.Number.{IsOfNumber, Names};
-ghost use Rattle.programs.specs.Words.{HasNoLimit, IsNoVerify, IsVerify, at_once_number, connections_number, number_32, patience_number};
+ghost use Rattle.programs.specs.Words.{HasNoLimit, at_once_number, connections_number, number_32, patience_number, verify_number};
 
 use crate::exit::Exit;
 use crate::number::{number, number_or};
@@ -68,7 +68,7 @@ where
 {
     let mut server = server_of(rt, line)?;
     let limits = limits_of(rt, line.connections, line.at_once, line.patience)?;
-    let verify = verify_of(rt, line.verify)?;
+    let verify = millis_of(verify_of(rt, line.verify)?);
     let additions = additions_of(rt, line.allow_origin, line.announce_last)?;
     let mut files = files_of(rt, &line.files, verify)?;
     let mut log = AccessLog {
@@ -162,16 +162,24 @@ pub(crate) fn limits_of<R: AllocGlobal>(
     })
 }
 
-/// How many milliseconds pass at least before the bytes of files that seem unchanged are compared again, or `None` where they never are.
-pub(crate) fn verify_of<R: AllocGlobal>(rt: &R, word: Option<&str>) -> Result<Option<u64>, Exit>
-    ensures ok { IfOk result (IsVerify (option_copied word.entry)) }
-    ensures err { OnErr result (IsNoVerify (option_copied word.entry)) }
+/// Returns how many milliseconds pass at least before the bytes of a file that seems unchanged are compared again, or `None` with 0.
+pub(crate) fn millis_of(seconds: u32) -> Option<u64>
+    ensures { result ≡ (if seconds == 0 then None else Some (seconds * 1000)) }
+{
+    if seconds == 0 {
+        None
+    } else {
+        Some(u64::from(seconds) * 1000)
+    }
+}
+
+/// How many seconds pass at least before the bytes of files that seem unchanged are compared again; 0 where they never are.
+pub(crate) fn verify_of<R: AllocGlobal>(rt: &R, word: Option<&str>) -> Result<u32, Exit>
+    ensures ok { IfOk result (λ seconds. verify_number (option_copied word.entry) ≡ Some seconds) }
+    ensures err { OnErr result (verify_number (option_copied word.entry) ≡ None) }
     ensures kinds { IfErr result IsOfNumber }
 {
-    match word {
-        Some(word) => Ok(Some(u64::from(number(rt, word, 1, 86_400)?) * 1_000)),
-        None => Ok(None),
-    }
+    number_or(rt, word, 1, 86_400, 0)
 }
 
 /// The file that a word names as `NAME=PATH`, cut at the first `=`.

@@ -93,8 +93,6 @@ Usage: {name} cogserve FILE..
        {name} cogread info SERVER NAME [--requests N] [--blocks N] [--ahead N] [--keep]
        {name} cogread describe SERVER NAME [--json] [--requests N] [--blocks N] [--ahead N] [--keep]
        {name} cogread window .. --whole [--level N] ..
-       {name} cogread window .. --bounds WEST SOUTH EAST NORTH [--level N | --columns C] ..
-       {name} cogread window .. --output FILE --world ..
        {name} cogread .. http://HOST[:PORT]/NAME .. [--close]
        {name} cogread .. FILE ..
        {name} cogread .. [--output FILE] [--verbose | --progress]

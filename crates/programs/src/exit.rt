@@ -9,7 +9,6 @@ use read_progress::WhySentence;
 use scripts::ScriptError;
 use std::alloc::AllocError;
 use std::{fmt, io};
-use text_description::NoBounds;
 use text_report::ExplainedFault;
 use tiff_dir::FileFault;
 
@@ -45,8 +44,6 @@ pub enum Exit {
     OfFile(FileFault),
     /// The report is this fault of the file that a URL names: its line explains it.
     Explained(FileFault),
-    /// Bounds have no window in the image, for this reason.
-    NoBounds(NoBounds),
     /// No report stands after all requests.
     NoReport,
     /// The first answer to a URL isn't used for this reason, nor will a later one be.
@@ -71,8 +68,7 @@ impl Exit {
     ghost use Rattle.programs.specs.Status.{EndsBy, EndsWith, HasStatus};
 
     /// The exit status: 0 for help and the version, 1 for files, sockets, publications and memory, 2 for the command
-    /// line and scripts, 3 for a fault of the file that is read or where bounds have no window in it, and 4 where there is
-    /// no report.
+    /// line and scripts, 3 for a fault of the file that is read, and 4 where there is no report.
     pub fn status(&self) -> u8
         ensures { HasStatus self.now result }
     {
@@ -90,7 +86,6 @@ impl Exit {
             | Exit::Script(ScriptError::NotAnEvent(_)) => 2,
             Exit::OfFile(_) => 3,
             Exit::Explained(_) => 3,
-            Exit::NoBounds(_) => 3,
             Exit::NoReport | Exit::NotUsed(_) => 4,
             Exit::Script(_)
             | Exit::CantRead(_)
@@ -175,7 +170,6 @@ impl fmt::Display for ExitLine<'_> {
                 None => write!(f, "{program}: fault {}", fault.number()),
             },
             Exit::Explained(fault) => write!(f, "{program}: {}", ExplainedFault(*fault)),
-            Exit::NoBounds(why) => write!(f, "{program}: no window: {why}"),
             Exit::NoReport => write!(f, "{program}: no report"),
             Exit::NotUsed(why) => write!(f, "{program}: no report: {}", WhySentence(*why)),
             Exit::CantListen => write!(f, "{program}: can't listen"),
@@ -221,7 +215,6 @@ impl From<ReadError> for Exit {
     fn from(error: ReadError) -> Exit {
         match error {
             ReadError::OfFile(fault) => Exit::OfFile(fault),
-            ReadError::NotPlaced(why) => Exit::NoBounds(why),
             ReadError::NoReport => Exit::NoReport,
             ReadError::NotUsed(why) => Exit::NotUsed(why),
             ReadError::Memory => Exit::Memory,

@@ -1,11 +1,11 @@
 //! Numbers of command lines.
 ghost use Rattle.std.specs.Prelude.{◌≡◌, ◌≤◌, ◌⊎◌, None, Some, IfErr, IfOk, IfSome, OnErr};
 ghost use Rattle.std.specs.Option.{option_copied};
-ghost use Rattle.command_lines.specs.Number.{coordinate_from, number_from};
+ghost use Rattle.command_lines.specs.Number.{number_from};
 ghost use Rattle.programs.specs.Number.{IsOfNumber, Names, number_or};
 
 use crate::exit::Exit;
-use command_lines::{coordinate_from, number_from};
+use command_lines::number_from;
 
 /// The number that a word writes, from `least` to `greatest`.
 pub fn number<R: AllocGlobal>(rt: &R, word: &str, least: u32, greatest: u32) -> Result<u32, Exit>
@@ -38,18 +38,5 @@ pub fn number_or<R: AllocGlobal>(
     match word {
         Some(word) => number(rt, word, least, greatest),
         None => Ok(default),
-    }
-}
-
-/// The double that is nearest to the decimal that a word writes.
-pub fn coordinate<R: AllocGlobal>(rt: &R, word: &str) -> Result<f64, Exit>
-    ensures ok { IfOk result (λ x. coordinate_from word.now ≡ Some x) }
-    ensures err { OnErr result (coordinate_from word.now ≡ None) }
-    ensures told { IfErr result (Names word.now) }
-    ensures kinds { IfErr result IsOfNumber }
-{
-    match coordinate_from(word) {
-        Some(x) => Ok(x),
-        None => Err(Exit::NotANumber(String::from_str(rt.alloc(), word)?)),
     }
 }

@@ -6,7 +6,7 @@ ghost use Rattle.programs.specs.NamedFiles.{AreWatched, IsWatched, NamesBoth, Na
 ghost use Rattle.programs.specs.Number.{IsOfNumber};
 ghost use Rattle.programs.specs.Words.{IsGiven};
 
-use crate::cogserve::{ended, limits_of, verify_of};
+use crate::cogserve::{ended, limits_of, millis_of, verify_of};
 use crate::exit::Exit;
 use crate::number::number;
 use crate::origin::additions_of;
@@ -38,7 +38,7 @@ where
     let given = given_epoch(rt, line.epoch)?;
     let connections = line.connections.unwrap_or(CONNECTIONS);
     let limits = limits_of(rt, connections, line.at_once, line.patience)?;
-    let verify = verify_of(rt, line.verify)?;
+    let verify = millis_of(verify_of(rt, line.verify)?);
     let additions = additions_of(rt, line.allow_origin, true)?;
     let named = named_files(rt.alloc(), &line.files)?;
     check_names(rt.alloc(), &named)?;

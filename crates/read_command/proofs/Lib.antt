@@ -1,3 +1,3 @@
 pub mod OpenLemmas
-pub mod PartLemmas
+pub mod WholeLemmas
 pub mod FetchLemmas

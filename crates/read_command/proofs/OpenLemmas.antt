@@ -15,9 +15,7 @@ use Rattle.cog_client.specs.Transport.{Anything, FetchesSome, KeepsReading, Read
 use Rattle.read_command.specs.declared.reading.Asked.{Asked}
 use Rattle.read_command.specs.declared.reading.Asked.TheVariants as asked
 use Rattle.read_command.specs.Exchanges.{AsksOf, Ends, FindsReplaced, IsAskedFor, IsReplaced, ReadsSome, StopsReading}
-use Rattle.read_command.specs.declared.reading.Part.{Part}
-use Rattle.read_command.specs.Part.{IsOfPartBy, TellsPart}
-use Rattle.read_command.specs.Text.{IsFor}
+use Rattle.read_command.specs.Text.{IsFor, IsOfWholeBy, TellsSides}
 
 opened_name : (q : Query) (old opened : ClientState) → OpensKeeping q old opened → name_of opened ≡ name_of old
 unfolding name_of
@@ -52,20 +50,20 @@ ends_of q c most count is (inl all) = inl all
 ends_of q c most count is (inr (inl none)) = absurd (none-some q (sym none ∙ is))
 ends_of q c most count is (inr (inr stands)) = inr stands
 
--- a query, and a description, aren't a part
-pub query_part : (query : Query) (part : Part) → asked.Query query ≢ asked.Part part
-query_part query part = λ same. cc
+-- a query, and a description, aren't a whole level
+pub query_whole : (query : Query) (level : ℕ) → asked.Query query ≢ asked.Whole level
+query_whole query level = λ same. cc
 
-pub description_part : (form : Form) (part : Part) → asked.Description form ≢ asked.Part part
-description_part form part = λ same. cc
+pub description_whole : (form : Form) (level : ℕ) → asked.Description form ≢ asked.Whole level
+description_whole form level = λ same. cc
 
--- for what is asked, but a part, it is the end
-pub ends_for : (a : Asked) (old c : ClientState) (most count : ℕ) → ((part : Part) → a ≢ asked.Part part) → (most ≤ count) ⊎ IsSome (report_of c) → Ends a most count old c
+-- for what is asked, but a whole level, it is the end
+pub ends_for : (a : Asked) (old c : ClientState) (most count : ℕ) → ((level : ℕ) → a ≢ asked.Whole level) → (most ≤ count) ⊎ IsSome (report_of c) → Ends a most count old c
 ends_for (asked.Query query) old c most count not h = h
-ends_for (asked.Part part) old c most count not h = absurd (not part refl)
+ends_for (asked.Whole level) old c most count not h = absurd (not level refl)
 ends_for (asked.Description form) old c most count not h = h
 
-pub ended : {T E : Type 0} (r : Result T E) (a : Asked) (q : Query) (old c : ClientState) (most count : ℕ) → ((part : Part) → a ≢ asked.Part part) → query_of c ≡ Some q
+pub ended : {T E : Type 0} (r : Result T E) (a : Asked) (q : Query) (old c : ClientState) (most count : ℕ) → ((level : ℕ) → a ≢ asked.Whole level) → query_of c ≡ Some q
     → OnOk r ((most ≤ count) ⊎ IsIdle c) → OnOk r (Ends a most count old c)
 ended (Ok x) a q old c most count not is h = ends_for a old c most count not (ends_of q c most count is h)
 ended (Err e) a q old c most count not is h = tt
@@ -74,27 +72,27 @@ some_and : (o : Option Report) (P : Report → Type 0) → IsSome o → IfSome o
 some_and None P none h = absurd (false≢true none)
 some_and (Some r) P some h = h
 
--- for a part where Info doesn't give it
-pub ended_early : (part : Part) (q : Query) (old c : ClientState) (most count : ℕ) → query_of c ≡ Some q → IfSome (report_of c) (λ r. TellsPart (asked.Part part) r.outcome → ⊥)
-    → (most ≤ count) ⊎ IsIdle c → Ends (asked.Part part) most count old c
-ended_early part q old c most count is none h = elim (ends_of q c most count is h) [
+-- for a whole level where no sides were told
+pub ended_early : (level : ℕ) (q : Query) (old c : ClientState) (most count : ℕ) → query_of c ≡ Some q → IfSome (report_of c) (λ r. TellsSides (asked.Whole level) r.outcome → ⊥)
+    → (most ≤ count) ⊎ IsIdle c → Ends (asked.Whole level) most count old c
+ended_early level q old c most count is none h = elim (ends_of q c most count is h) [
   | inl all ↦ inl all
-  | inr stands ↦ inr (inl (some_and (report_of c) (λ r. query_of c ≡ Some Info → TellsPart (asked.Part part) r.outcome → ⊥) stands (untold (report_of c) none)))
+  | inr stands ↦ inr (inl (some_and (report_of c) (λ r. query_of c ≡ Some Info → TellsSides (asked.Whole level) r.outcome → ⊥) stands (untold (report_of c) none)))
 ]
   where
-    untold : (o : Option Report) → IfSome o (λ r. TellsPart (asked.Part part) r.outcome → ⊥)
-        → IfSome o (λ r. query_of c ≡ Some Info → TellsPart (asked.Part part) r.outcome → ⊥)
+    untold : (o : Option Report) → IfSome o (λ r. TellsSides (asked.Whole level) r.outcome → ⊥)
+        → IfSome o (λ r. query_of c ≡ Some Info → TellsSides (asked.Whole level) r.outcome → ⊥)
     untold None none = tt
     untold (Some r) none = λ info. none
 
 -- and where it was asked for
-pub ended_part : (part : Part) (q : Query) (old c : ClientState) (most count : ℕ) → query_of c ≡ Some q → q ≢ Info → (most ≤ count) ⊎ IsIdle c → Ends (asked.Part part) most count old c
-ended_part part q old c most count is other h = elim (ends_of q c most count is h) [
+pub ended_whole : (level : ℕ) (q : Query) (old c : ClientState) (most count : ℕ) → query_of c ≡ Some q → q ≢ Info → (most ≤ count) ⊎ IsIdle c → Ends (asked.Whole level) most count old c
+ended_whole level q old c most count is other h = elim (ends_of q c most count is h) [
   | inl all ↦ inl all
-  | inr stands ↦ inr (inl (some_and (report_of c) (λ r. query_of c ≡ Some Info → TellsPart (asked.Part part) r.outcome → ⊥) stands (never (report_of c))))
+  | inr stands ↦ inr (inl (some_and (report_of c) (λ r. query_of c ≡ Some Info → TellsSides (asked.Whole level) r.outcome → ⊥) stands (never (report_of c))))
 ]
   where
-    never : (o : Option Report) → IfSome o (λ r. query_of c ≡ Some Info → TellsPart (asked.Part part) r.outcome → ⊥)
+    never : (o : Option Report) → IfSome o (λ r. query_of c ≡ Some Info → TellsSides (asked.Whole level) r.outcome → ⊥)
     never None = tt
     never (Some r) = λ info sides. other (same_Some _ _ (sym is ∙ info))
 
@@ -106,11 +104,11 @@ asks_same book a q c is for = asks_of book a q c is (by (report_of c))
     by None = tt
     by (Some r) = λ p among tag. for p
 
--- the window of a part, where the report still has the tag under which Info gave it
-pub asks_part : (book : Book) (part : Part) (tag : List ℕ) (q : Query) (c : ClientState) → query_of c ≡ Some q → IfSome (report_of c) (λ r. r.tag ≡ tag) → IsOfPartBy book tag part q → AsksOf book (asked.Part part) c
-asks_part book part tag q c is same whole = asks_of book (asked.Part part) q c is (by (report_of c) same)
+-- the window of a whole level, where the report still has the tag under which its sides were told
+pub asks_whole : (book : Book) (level : ℕ) (tag : List ℕ) (q : Query) (c : ClientState) → query_of c ≡ Some q → IfSome (report_of c) (λ r. r.tag ≡ tag) → IsOfWholeBy book tag level q → AsksOf book (asked.Whole level) c
+asks_whole book level tag q c is same whole = asks_of book (asked.Whole level) q c is (by (report_of c) same)
   where
-    by : (o : Option Report) → IfSome o (λ r. r.tag ≡ tag) → IfSome o (λ r. (p : Publication) → In p book → p.tag ≡ r.tag → IsFor p.file (asked.Part part) q)
+    by : (o : Option Report) → IfSome o (λ r. r.tag ≡ tag) → IfSome o (λ r. (p : Publication) → In p book → p.tag ≡ r.tag → IsFor p.file (asked.Whole level) q)
     by None h = tt
     by (Some r) h = λ p among told. inr (whole p among (told ∙ h))
 

@@ -1,7 +1,8 @@
 -- What exchanges for what is asked keep and do, and when they end.
 use Rattle.std.specs.Prelude.{◌≡◌, ◌≢◌, ◌≤◌, ◌⊎◌, ℕ, zero, suc, Bool, true, Some, IfSome, IsSome, IsSomeAnd, ⊤}
 use Rattle.tiff_dir.specs.declared.query.Query.{Query}
-use Rattle.tiff_dir.specs.declared.query.Query.TheVariants.{Info}
+use Rattle.tiff_dir.specs.declared.query.Query.TheVariants.{Window, Info}
+use Rattle.tiff_dir.specs.declared.query.Pick.TheVariants.{Level}
 use Rattle.http_range.specs.Book.{Publication, Book, In}
 use Rattle.http_range.specs.declared.reading.Why.{Why}
 use Rattle.cog_client.specs.Client.{ClientState, query_of, report_of}
@@ -13,9 +14,7 @@ use Rattle.read_command.specs.declared.error.ReadError.{ReadError}
 use Rattle.read_command.specs.declared.error.ReadError.TheVariants.{Memory, NotUsed}
 use Rattle.read_command.specs.declared.reading.Asked.{Asked}
 use Rattle.read_command.specs.declared.reading.Asked.TheVariants as asked
-use Rattle.read_command.specs.declared.reading.Part.{Part}
-use Rattle.read_command.specs.Part.{IsWindowFor, TellsPart}
-use Rattle.read_command.specs.Text.{IsFor, StaysWithin}
+use Rattle.read_command.specs.Text.{IsFor, StaysWithin, TellsSides}
 
 -- the client still reads each book that it read and that the source spoke for
 abbrev pub StillReads : (Book → Type 0) → (Book → Type 0) → ClientState → ClientState → Type 0
@@ -25,10 +24,10 @@ StillReads before after old new = (book : Book) → ReadsBook before old book �
 abbrev pub AsksOf : Book → Asked → ClientState → Type 0
 AsksOf book a c = IfSome (report_of c) (λ r. (p : Publication) → In p book → p.tag ≡ r.tag → IfSome (query_of c) (IsFor p.file a))
 
--- The query is asked for what is asked of a file: for a part Info, or its window.
+-- The query is asked for what is asked of a file: for a whole level Info, or a window of that level from its first sample on.
 abbrev pub IsAskedFor : Asked → Query → Type 0
 IsAskedFor (asked.Query query) q = q ≡ query
-IsAskedFor (asked.Part part) q = (q ≡ Info) ⊎ IsWindowFor part q
+IsAskedFor (asked.Whole level) q = (q ≡ Info) ⊎ ((width height : ℕ) × q ≡ Window 0 0 width height (Level level))
 IsAskedFor (asked.Description form) q = q ≡ Info
 
 -- So many queries for what is asked are put one after another, and exchanged for, and nothing else is done to the client.
@@ -76,13 +75,13 @@ FindsReplaced a (suc n) old new = (mid told : ClientState)
 abbrev pub IsReplacedOften : Asked → (most : ℕ) → ClientState → ClientState → Type 0
 IsReplacedOften a most old new = (n : ℕ) × (mid : ClientState) × (most ≤ n) × FindsReplaced a n old mid × ReadsSome a mid new
 
--- a report stands, and not one of Info that only gives the part
-abbrev pub AnswersPart : Part → ClientState → Type 0
-AnswersPart part c = IsSomeAnd (report_of c) (λ r. query_of c ≡ Some Info → TellsPart (asked.Part part) r.outcome → ⊥)
+-- a report stands, and not one of Info that only tells sides
+abbrev pub AnswersWhole : (level : ℕ) → ClientState → Type 0
+AnswersWhole level c = IsSomeAnd (report_of c) (λ r. query_of c ≡ Some Info → TellsSides (asked.Whole level) r.outcome → ⊥)
 
--- The exchanges end where all are used up, or a report stands; those for a part only where one stands that tells more than Info which gives it,
--- or where the file was replaced as often as there may be exchanges.
+-- The exchanges end where all are used up, or a report stands; those for a whole level only where one stands that tells more than sides, or where
+-- the file was replaced as often as there may be exchanges.
 abbrev pub Ends : Asked → (most count : ℕ) → (old new : ClientState) → Type 0
-Ends (asked.Part part) most count old new =
-    (most ≤ count) ⊎ (AnswersPart part new ⊎ IsReplacedOften (asked.Part part) most old new)
+Ends (asked.Whole level) most count old new =
+    (most ≤ count) ⊎ (AnswersWhole level new ⊎ IsReplacedOften (asked.Whole level) most old new)
 Ends a most count old new = (most ≤ count) ⊎ IsSome (report_of new)

@@ -1,7 +1,6 @@
 //! Why there is no text of a file.
 use cog_client::{FetchError, Why};
 use extents::Memory;
-use text_description::NoBounds;
 use tiff_dir::FileFault;
 
 /// Why there is no text of a file.
@@ -9,8 +8,6 @@ use tiff_dir::FileFault;
 pub enum ReadError {
     /// The report is this fault of the file.
     OfFile(FileFault),
-    /// Bounds have no window in the image.
-    NotPlaced(NoBounds),
     /// No report stands that has what is asked.
     NoReport,
     /// The first answer isn't used for this reason, nor will a later one be.

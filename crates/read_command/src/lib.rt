@@ -2,11 +2,9 @@
 #![tactic(auto)]
 
 mod error;
-mod placed;
 mod reading;
 mod text;
 
 pub use error::ReadError;
-pub use placed::Placed;
-pub use reading::{Asked, Exchanges, Part, Verbosity};
+pub use reading::{Asked, Exchanges, Verbosity};
 pub use text::Text;

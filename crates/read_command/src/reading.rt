@@ -11,10 +11,9 @@ ghost use Rattle.cog_client.specs.Transport.{Anything, FetchesAll, FetchesSome, 
 ghost use Rattle.cog_fetch.specs.Takes.{TakenOf};
 ghost use Rattle.read_progress.specs.Noted.{IsRefused, source_of};
 ghost use Rattle.read_command.specs.declared.error.ReadError.TheVariants.{NoReport, NotUsed};
-ghost use Rattle.read_command.specs.declared.reading.Asked.TheVariants as asks;
-ghost use Rattle.read_command.specs.Part.{HasNoPart, IsGiven, IsOfPartBy, IsWindowFor, TellsPart};
+ghost use Rattle.read_command.specs.declared.reading.Asked.TheVariants.{Whole};
 ghost use Rattle.read_command.specs.Exchanges.{AsksOf, Ends, EndsUnused, IsAskedFor, IsUnused, ReadsSome, StillReads, StopsReading};
-ghost use Rattle.read_command.specs.Text.{HasNothing, IsOfFile, IsWritten, StaysWithin, WritesTrue};
+ghost use Rattle.read_command.specs.Text.{HasNothing, IsOfFile, IsOfWholeBy, IsWritten, StaysWithin, TellsSides, WritesTrue};
 
 use crate::error::ReadError;
 use crate::text::Text;
@@ -23,7 +22,7 @@ use cog_fetch::fetch_pieces;
 use http_range::law_fronts_are_read;
 use read_progress::{Noted, NotedNet, exchanges_drawn, exchanges_told};
 use std::rt::Clock;
-use text_description::{Bounds, Description, Form, NoBounds, window_by};
+use text_description::{Description, Form};
 use text_report::{FaultSentence, info_text, picture_head};
 use tiff_dir::Pick;
 
@@ -31,19 +30,10 @@ use tiff_dir::Pick;
 #[derive(Clone, Copy, Debug)]
 pub enum Asked {
     Query(Query),
-    /// A window that Info of the file gives.
-    Part(Part),
-    /// What the file says of itself.
-    Description(Form),
-}
-
-/// A window that Info of the file gives.
-#[derive(Clone, Copy, Debug)]
-pub enum Part {
     /// The whole of a level.
     Whole { level: u32 },
-    /// The window that covers bounds.
-    Bounds { bounds: Bounds, pick: Pick },
+    /// What the file says of itself.
+    Description(Form),
 }
 
 /// What is told of exchanges on standard error.
@@ -115,29 +105,29 @@ impl<R: Eprint + Clock + AllocGlobal> Exchanges<'_, '_, R> {
         Ok(())
     }
 
-    /// Reads Info, and then the window that it gives. Where the file was replaced between, it begins again.
-    fn fetch_part<P: Pieces>(
+    /// Reads the sides of a level, and then the whole of it. Where the file was replaced between, it begins again.
+    fn fetch_whole<P: Pieces>(
         &self,
         client: &mut Client,
         noted: &mut Noted<P>,
-        part: Part,
+        level: u32,
     ) -> Result<(), FetchError>
         ensures reads { StillReads (P.speaks_for (source_of noted.old)) (P.speaks_for (source_of noted.new)) client.old client.new }
         ensures asks { (book : Book) → ReadsBook (P.speaks_for (source_of noted.old)) client.old book
-            → OnOk result (AsksOf book (asks.Part part) client.new) }
+            → OnOk result (AsksOf book (Whole level) client.new) }
         ensures few { StaysWithin self.now.requests (P.count (source_of noted.old)) (P.count (source_of noted.new)) }
 
-        ensures ends { OnOk result (Ends (asks.Part part) self.now.requests (P.count (source_of noted.new)) client.old client.new) }
+        ensures ends { OnOk result (Ends (Whole level) self.now.requests (P.count (source_of noted.new)) client.old client.new) }
 
         // Queries for what is asked are put one after another, and exchanged for, and nothing else is done to the client; want of memory
         // came in the exchanges for the last of them.
-        ensures queries { OnOk result (ReadsSome (asks.Part part) client.old client.new) }
-        ensures stops { OnErr result (StopsReading (asks.Part part) client.old client.new) }
+        ensures queries { OnOk result (ReadsSome (Whole level) client.old client.new) }
+        ensures stops { OnErr result (StopsReading (Whole level) client.old client.new) }
     {
         for _ in 0..self.requests {
             client.open(Query::Info);
             self.fetch(client, noted)?;
-            let Some((tag, window)) = told_part(client, part) else {
+            let Some((tag, window)) = whole_of(client, level) else {
                 return Ok(());
             };
             client.open(window);
@@ -178,7 +168,7 @@ impl<R: Eprint + Clock + AllocGlobal> Exchanges<'_, '_, R> {
         let query = match asked {
             Asked::Query(query) => query,
             Asked::Description(_) => Query::Info,
-            Asked::Part(part) => return self.fetch_part(client, noted, part),
+            Asked::Whole { level } => return self.fetch_whole(client, noted, level),
         };
         client.open(query);
         self.fetch(client, noted)
@@ -238,7 +228,7 @@ impl<R: Eprint + Clock + AllocGlobal> Exchanges<'_, '_, R> {
         ensures asks { (book : Book) → ReadsBook (P.speaks_for (source_of noted.old)) client.old book
             → OnOk result (AsksOf book asked client.new) }
         ensures few { StaysWithin self.now.requests (P.count (source_of noted.old)) (P.count (source_of noted.new)) }
-        ensures ends { ((part : Part) → asked ≢ asks.Part part) → OnOk result
+        ensures ends { ((level : ℕ) → asked ≢ Whole level) → OnOk result
             ((self.now.requests ≤ P.count (source_of noted.new)) ⊎ IsSome (report_of client.new)) }
         ensures refused { IfErr result (EndsUnused self.now.is_url (P.count (source_of noted.old)) (P.count (source_of noted.new))
             noted.new) }
@@ -259,10 +249,10 @@ impl<R: Eprint + Clock + AllocGlobal> Exchanges<'_, '_, R> {
         // What is written is true of one publication of each book that the client reads and the source speaks for.
         ensures truth { (book : Book)
             → ReadsBook (P.speaks_for (source_of noted.old)) client.old book → WritesTrue (name_of client.old) book asked result }
-        // So many exchanges are made at most, and that no report stands is told only after them all, but of a part, which is
+        // So many exchanges are made at most, and that no report stands is told only after them all, but of a whole level, which is
         // read by several queries.
         ensures few { StaysWithin self.now.requests (P.count (source_of noted.old)) (P.count (source_of noted.new)) }
-        ensures none { ((part : Part) → asked ≢ asks.Part part) → result ≡ Err NoReport
+        ensures none { ((level : ℕ) → asked ≢ Whole level) → result ≡ Err NoReport
             → self.now.requests ≤ P.count (source_of noted.new) }
         // That an answer isn't used is told only where a URL names the file, after one exchange at most, of the answer that came then.
         ensures refused { (why : Why) → result ≡ Err (NotUsed why)
@@ -274,7 +264,7 @@ impl<R: Eprint + Clock + AllocGlobal> Exchanges<'_, '_, R> {
         self.text_at(client, asked)
     }
 
-    /// The text of the report that stands. That there is none is told only where none stands, or of a part one of Info that gives it.
+    /// The text of the report that stands. That there is none is told only where none stands, or of a whole level one that tells its sides.
     fn text_at<'c>(&self, client: &'c Client, asked: Asked) -> Result<Text<'c>, ReadError>
         ensures written { IsOfFile result
             → (r : Report) × Stands client.now (Some r) × IsWritten asked r.tag r.outcome result }
@@ -325,10 +315,7 @@ impl<R: Eprint + Clock + AllocGlobal> Exchanges<'_, '_, R> {
                     }
                     None => Err(ReadError::NoReport),
                 },
-                Asked::Part(part) => match part_of(info, part) {
-                    Ok(_) => Err(ReadError::NoReport),
-                    Err(why) => Err(ReadError::NotPlaced(why)),
-                },
+                Asked::Whole { .. } => Err(ReadError::NoReport),
             },
             Outcome::Fault(fault) => {
                 if self.verbosity == Verbosity::Each && !self.is_url {
@@ -347,42 +334,25 @@ fn level_sides(info: &Info, level: u32) -> (u32, u32)
     info.sides.get(level as usize).copied().unwrap_or((1, 1))
 }
 
-/// Returns the query of the window that Info gives. Of a level that isn't there it is for a window that isn't, either. Fails where bounds
-/// have no window.
-fn part_of(info: &Info, part: Part) -> Result<Query, NoBounds>
-    ensures gives { IfOk result (IsGiven info.now part) }
-    ensures window { IfOk result (IsWindowFor part) }
-    ensures none { IfErr result (λ why. HasNoPart info.now part why) }
-{
-    match part {
-        Part::Whole { level } => {
-            let (w, h) = level_sides(info, level);
-            let (x, y, pick) = (0, 0, Pick::Level(level));
-            Ok(Query::Window { x, y, w, h, pick })
-        }
-        Part::Bounds { bounds, pick } => window_by(info, &bounds, pick),
-    }
-}
-
-/// The tag that a client has told Info under, and the window that Info gives.
-#[tactic(auto, using(crate::proofs::PartLemmas::part_told, crate::proofs::PartLemmas::not_info, crate::proofs::PartLemmas::none_told))]
-fn told_part(client: &Client, part: Part) -> Option<(Tag, Query)>
-    ensures part { (book : Book) → HasDistinctTags book → ClientAgrees client.now book
-        → IfSome result (λ told. IsOfPartBy book told.0 part told.1) }
-    ensures asked { IfSome result (λ told. IsAskedFor (asks.Part part) told.1) }
-    ensures window { IfSome result (λ told. told.1 ≢ AnInfo) }
-    ensures told { IfSome result (λ told. IsSomeAnd (report_of client.now) (λ r. r.tag ≡ told.0)) }
-    ensures none { result ≡ None → IfSome (report_of client.now) (λ r. TellsPart (asks.Part part) r.outcome → ⊥) }
+/// The tag that a client has told the sides of a file under, and the window that is the whole of a level. A level that isn't there has
+/// a window that isn't, either.
+#[tactic(auto, using(crate::proofs::WholeLemmas::whole_told))]
+fn whole_of(client: &Client, level: u32) -> Option<(Tag, Query)>
+    ensures whole { (book : Book) → HasDistinctTags book → ClientAgrees client.now book
+        → IfSome result (λ whole. IsOfWholeBy book whole.0 level whole.1) }
+    ensures asked { IfSome result (λ whole. IsAskedFor (Whole level) whole.1) }
+    ensures window { IfSome result (λ whole. whole.1 ≢ AnInfo) }
+    ensures told { IfSome result (λ whole. IsSomeAnd (report_of client.now) (λ r. r.tag ≡ whole.0)) }
+    ensures none { result ≡ None → IfSome (report_of client.now) (λ r. TellsSides (Whole level) r.outcome → ⊥) }
 {
     law_fronts_are_read();
     let report = client.report()?;
     let Outcome::Info(info) = &report.outcome else {
         return None;
     };
-    match part_of(info, part) {
-        Ok(window) => Some((report.tag.copy(), window)),
-        Err(_) => None,
-    }
+    let (w, h) = level_sides(info, level);
+    let (x, y, pick) = (0, 0, Pick::Level(level));
+    Some((report.tag.copy(), Query::Window { x, y, w, h, pick }))
 }
 
 /// Whether a client's report stands under another tag.

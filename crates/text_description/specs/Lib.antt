@@ -1,6 +1,4 @@
-pub mod Bounds
 pub mod Description
 pub mod Facts
 pub mod Placement
 pub mod Text
-pub mod WorldFile

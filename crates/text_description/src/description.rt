@@ -94,7 +94,7 @@ impl<'a> Description<'a> {
 }
 
 /// Whether a pixel is a point.
-pub(crate) fn is_point(raster_type: Option<RasterType>) -> bool
+fn is_point(raster_type: Option<RasterType>) -> bool
     ensures { result ≡ is_point raster_type }
 {
     matches!(raster_type, Some(RasterType::Point))

@@ -2,15 +2,11 @@
 //! what the file doesn't say is absent.
 #![tactic(auto)]
 
-mod bounds;
 mod description;
 mod facts;
 mod placement;
 mod words;
-mod world_file;
 
-pub use bounds::{Bounds, NoBounds, law_near_is, window_by};
 pub use description::{Description, Form};
 pub use facts::{CoordinateSystem, LevelFacts, RasterType};
 pub use placement::{Corners, Placement, law_halves_are};
-pub use world_file::{WorldFile, world_of};

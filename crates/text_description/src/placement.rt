@@ -10,10 +10,10 @@ use serde::Serialize;
 use std::num::f64_from_bits_with_nan;
 
 /// The first column and row, and what a step adds that goes along the other axis.
-pub(crate) const NOTHING: f64 = 0.0;
+const NOTHING: f64 = 0.0;
 
 /// Half a column or a row before the first one.
-pub(crate) const HALF_BEFORE: f64 = -0.5;
+const HALF_BEFORE: f64 = -0.5;
 
 /// A side has two halves.
 const TWO: f64 = 2.0;

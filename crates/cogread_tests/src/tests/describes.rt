@@ -5,11 +5,10 @@ use fixtures_support::{
     Field, FieldType, Order, f1, f3, push_directory, push_double, push_header, push_short,
 };
 use programs_support::Capture;
-use read_command::{Asked, Part};
+use read_command::Asked;
 use std::alloc::{AllocError, Global};
 use std::test::Fail;
-use text_description::{Bounds, Form};
-use tiff_dir::Pick;
+use text_description::Form;
 use transports::server_of_one;
 
 /// The fields of 16 by 16 samples of 8 bits in a tile, whose scale and tiepoint stand at 160 and 184, and the keys at 232.
@@ -185,64 +184,5 @@ fn tells_the_fault_of_a_file(rt: HostRuntime) -> Result<(), Fail> {
         let told = told_of(Capture::new(&rt), &server, Asked::Description(form));
         assert!(rt; told.is("", "cogread: fault 9 259\n", 3), "{told:?}");
     }
-    Ok(())
-}
-
-/// Bounds in meters, of level 0.
-fn bounds(west: f64, south: f64, east: f64, north: f64) -> Asked {
-    Asked::Part(Part::Bounds {
-        bounds: Bounds {
-            west,
-            south,
-            east,
-            north,
-        },
-        pick: Pick::Level(0),
-    })
-}
-
-/// The file of points begins at 440690 and 3751350, and its pixels are 60 by 60.
-#[test]
-fn reads_the_window_of_bounds(rt: HostRuntime) -> Result<(), Fail> {
-    let server = server_of_one(rt.alloc(), 1, b"a", points(rt.alloc())?)?;
-    for (asked, out, err, status) in [
-        (
-            bounds(440750.0, 3751200.0, 440810.0, 3751290.0),
-            "P5\n1 2\n255\n\0\0",
-            "",
-            0,
-        ),
-        (
-            bounds(440690.0, 3751289.9, 440690.1, 3751350.0),
-            "P5\n1 2\n255\n\0\0",
-            "",
-            0,
-        ),
-        (
-            bounds(440600.0, 3751200.0, 440810.0, 3751290.0),
-            "",
-            "cogread: fault 14\n",
-            3,
-        ),
-        (
-            bounds(440810.0, 3751200.0, 440750.0, 3751290.0),
-            "",
-            "cogread: fault 14\n",
-            3,
-        ),
-    ] {
-        let told = told_of(Capture::new(&rt), &server, asked);
-        assert!(rt; told.is(out, err, status), "{asked:?}: {told:?}");
-    }
-    Ok(())
-}
-
-#[test]
-fn has_no_bounds_without_a_place(rt: HostRuntime) -> Result<(), Fail> {
-    let server = server_of_one(rt.alloc(), 1, b"a", f1(rt.alloc())?)?;
-    let told = told_of(Capture::new(&rt), &server, bounds(0.0, 0.0, 8.0, 8.0));
-    let line =
-        "cogread: no window: the file doesn't say where its pixels lie. Ask by X Y W H, without --bounds and --world\n";
-    assert!(rt; told.is("", line, 3), "{told:?}");
     Ok(())
 }

@@ -7,7 +7,7 @@ use cog_server::Server;
 use fixtures_support::{f1, f2, f2b};
 use programs::Exit;
 use programs_support::{Capture, Told};
-use read_command::{Asked, Exchanges, Part, Verbosity};
+use read_command::{Asked, Exchanges, Verbosity};
 use read_progress::{Noted, NotedNet};
 use std::alloc::{AllocError, Global};
 use std::io;
@@ -89,7 +89,7 @@ fn prints_what_is_read_or_tells_the_fault(rt: HostRuntime) -> Result<(), Fail> {
         (Asked::Query(Query::Info), info, "", 0),
         (window(14, Pick::Level(0)), "", outside, 3),
         (window(2, Pick::Level(1)), "", outside, 3),
-        (Asked::Part(Part::Whole { level: 1 }), "", outside, 3),
+        (Asked::Whole { level: 1 }, "", outside, 3),
     ] {
         let told = told_of(Capture::new(&rt), &server, query);
         assert!(rt; told.is(out, err, status), "{query:?}: {told:?}");
@@ -101,11 +101,7 @@ fn prints_what_is_read_or_tells_the_fault(rt: HostRuntime) -> Result<(), Fail> {
 #[test]
 fn reads_the_whole_of_a_level(rt: HostRuntime) -> Result<(), Fail> {
     let server = server_of_one(rt.alloc(), 1, b"a", f1(rt.alloc())?)?;
-    let told = told_of(
-        Capture::new(&rt),
-        &server,
-        Asked::Part(Part::Whole { level: 0 }),
-    );
+    let told = told_of(Capture::new(&rt), &server, Asked::Whole { level: 0 });
     let mut want = Vec::from_slice(rt.alloc(), b"P5\n16 16\n255\n")?;
     for sample in 0..=u8::MAX {
         want.push(sample)?;
@@ -137,7 +133,7 @@ fn told_of_replaced(rt: &HostRuntime, requests: u32) -> Result<Told, Fail> {
         Capture::new(rt),
         pieces,
         requests,
-        Asked::Part(Part::Whole { level: 0 }),
+        Asked::Whole { level: 0 },
     ))
 }
 

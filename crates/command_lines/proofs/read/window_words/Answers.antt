@@ -11,19 +11,10 @@ returns-then-get_flag c =
       option_row found (codes "level") c.get_str.result c.get_str.ensures,
     )
 
-pub returns-in-Some : goal.returns-in-Some
-returns-in-Some c =
+pub returns : goal.returns
+returns c =
     let found = found_of c.args.matches.now in (
       flag_is _ c.get_flag.result false c.if-get_flag.false
           (flag_tells found (codes "whole") c.get_flag.result c.get_flag.ensures.none c.get_flag.ensures.value c.get_flag.ensures.other),
-      c.in-Some.ensures,
-    )
-
-pub returns-in-None : goal.returns-in-None
-returns-in-None c =
-    let found = found_of c.args.matches.now in (
-      flag_is _ c.get_flag.result false c.if-get_flag.false
-          (flag_tells found (codes "whole") c.get_flag.result c.get_flag.ensures.none c.get_flag.ensures.value c.get_flag.ensures.other),
-      c.in-None.ensures,
       c.words_of_window.ensures,
     )

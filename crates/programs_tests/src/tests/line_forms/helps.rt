@@ -25,10 +25,6 @@ const WINDOW_PARTS: &[&str] = &[
     "Connects anew for each request (the default for SERVER NAME; a URL's connection is kept)",
     "--whole",
     "The whole of the level, in the place of X Y W H",
-    "--bounds <WEST> <SOUTH> <EAST> <NORTH>",
-    "outwards to whole pixels, in the place of X Y W H",
-    "--world",
-    "Also writes where the window lies, as a world file beside --output, with the ending .wld",
     "--output <FILE>",
     "(default: standard output)",
     "--verbose",
@@ -36,7 +32,6 @@ const WINDOW_PARTS: &[&str] = &[
     "Draws on standard error, as one line over itself, how many ranges and bytes came",
     "Example:\n  cogtools cogread window 127.0.0.1:8080 a.tif 0 0 256 256 > window.pgm\n",
     "cogtools cogread window http://127.0.0.1:8080/a.tif 0 0 256 256 --output window.pgm\n",
-    "cogtools cogread window http://127.0.0.1:8080/a.tif --bounds 106.1 47.5 106.3 47.9 --output window.pgm\n",
 ];
 
 /// A command line that asks for help, and what stands in the help: each word and option with its unit and its default, and an
@@ -53,8 +48,6 @@ const HELPS: [(&str, &[&str]); 10] = [
         "cogtools cogread info SERVER NAME [--requests N] [--blocks N] [--ahead N] [--keep]\n",
         "cogtools cogread describe SERVER NAME [--json] [--requests N] [--blocks N] [--ahead N] [--keep]\n",
         "cogtools cogread window .. --whole [--level N] ..\n",
-        "cogtools cogread window .. --output FILE --world ..\n",
-        "cogtools cogread window .. --bounds WEST SOUTH EAST NORTH [--level N | --columns C] ..\n",
         "cogtools cogread .. http://HOST[:PORT]/NAME .. [--close]\n",
         "cogtools cogread .. [--output FILE] [--verbose | --progress]\n",
         "cogtools cogworld [--pieces N] SCRIPT\n",

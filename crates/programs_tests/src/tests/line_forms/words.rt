@@ -2,9 +2,7 @@
 use assertion_support::expect_eq;
 use clap::Error;
 use clap::error::ErrorKind;
-use command_lines::{
-    AskedWords, BoundsWords, ReadLine, WindowWords, read_line, serve_line, world_line,
-};
+use command_lines::{AskedWords, ReadLine, WindowWords, read_line, serve_line, world_line};
 use programs_support::words_of;
 use std::alloc::{AllocError, Global};
 use std::process::Abort;
@@ -29,15 +27,6 @@ const OF_4_COLUMNS: WindowWords<'static> = WindowWords {
     ..WINDOW
 };
 
-const BOUNDS: BoundsWords<'static> = BoundsWords {
-    west: "-1.5",
-    south: "-2",
-    east: "3e4",
-    north: "4",
-    level: Some("1"),
-    columns: None,
-};
-
 const LINE: ReadLine<'static> = ReadLine {
     server: "h:1",
     name: "a",
@@ -48,7 +37,6 @@ const LINE: ReadLine<'static> = ReadLine {
     keep: false,
     close: false,
     output: None,
-    world: false,
     verbose: false,
     progress: false,
 };
@@ -95,15 +83,6 @@ fn expect_windows(rt: &(impl Abort + AllocGlobal)) -> Result<(), Fail> {
     Ok(())
 }
 
-/// The lines of bounds.
-#[rattlefmt::skip]
-fn expect_bounds(rt: &(impl Abort + AllocGlobal)) -> Result<(), Fail> {
-    let asked = AskedWords::Bounds(BOUNDS);
-    expect_read(rt, "cogread window h:1 a --bounds -1.5 -2 3e4 4 --level 1", &ReadLine { asked, ..LINE })?;
-    expect_read(rt, "cogread window --bounds -1.5 -2 3e4 4 h:1 --level=1 a --keep", &ReadLine { asked, keep: true, ..LINE })?;
-    Ok(())
-}
-
 /// The lines of whole levels, and of infos.
 #[rattlefmt::skip]
 fn expect_wholes_and_infos(rt: &(impl Abort + AllocGlobal)) -> Result<(), Fail> {
@@ -130,7 +109,6 @@ fn expect_descriptions(rt: &(impl Abort + AllocGlobal)) -> Result<(), Fail> {
 #[test]
 fn reads_the_options_of_cogread_anywhere(rt: HostRuntime) -> Result<(), Fail> {
     expect_windows(&rt)?;
-    expect_bounds(&rt)?;
     expect_wholes_and_infos(&rt)?;
     expect_descriptions(&rt)
 }

@@ -1,10 +1,9 @@
 use Rattle.std.proofs.Common.{◌≡◌, ◌≢◌, ◌∙◌, ℕ, subst, sym}
-use Rattle.read_command.specs.declared.reading.Asked.TheVariants.{Part as APart}
+use Rattle.read_command.specs.declared.reading.Asked.TheVariants.{Whole}
 use Rattle.read_command.specs.declared.reading.Asked.{Asked}
-use Rattle.read_command.specs.declared.reading.Part.{Part}
 use Rattle.read_command.specs.Text.{IsFor}
 use Rattle.read_command.specs.Exchanges.{AsksOf, IsAskedFor}
-use Rattle.read_command.proofs.OpenLemmas.{asks_query, asks_same, description_part, ended, on_ok, query_part, opened_reads, reads_one, stops_one}
+use Rattle.read_command.proofs.OpenLemmas.{asks_query, asks_same, description_whole, ended, on_ok, query_whole, opened_reads, reads_one, stops_one}
 use Rattle.http_range.specs.Book.{Publication}
 use Rattle.read_command.proofs.reading.Exchanges.fetch_asked.Goals.{in-Query, in-Description}
 use Rattle.read_command.proofs.reading.Exchanges.fetch_asked.Goals as goal
@@ -25,9 +24,9 @@ returns-clause-asks g c = λ book reads.
 pub returns-clause-ends : goal.returns-clause-ends
 returns-clause-ends g c =
     let is = asks_query _ _ c.match-asked.query c.args.client.now c.open.new.self c.fetch.new.client c.open.ensures c.fetch.ensures.keeps in
-    let other : (part : Part) → c.args.asked ≢ APart part = elim c.match-asked.branch [
-      | in-Query w ↦ λ part same. query_part _ part (sym w.in-Query.is ∙ same)
-      | in-Description w ↦ λ part same. description_part _ part (sym w.in-Description.is ∙ same)
+    let other : (level : ℕ) → c.args.asked ≢ Whole level = elim c.match-asked.branch [
+      | in-Query w ↦ λ level same. query_whole _ level (sym w.in-Query.is ∙ same)
+      | in-Description w ↦ λ level same. description_whole _ level (sym w.in-Description.is ∙ same)
     ] in
     ended c.fetch.result c.args.asked c.match-asked.query c.args.client.now c.fetch.new.client _ _ other is c.fetch.ensures.ends
 

@@ -1,4 +1,4 @@
-use Rattle.read_command.proofs.PartLemmas.{true_of_book}
+use Rattle.read_command.proofs.WholeLemmas.{true_of_book}
 use Rattle.read_command.proofs.reading.Exchanges.text.Goals as goal
 
 pub returns-clause-truth : goal.returns-clause-truth
