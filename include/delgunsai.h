@@ -2,34 +2,45 @@
  * socket. It gives the texts of requests, takes the bytes of answers, and reports.
  *
  * Link with libdelgunsai, which include/install makes of what `rt lib` proves and builds. It needs the C library alone.
- * docs/LIBRARY.md has the lines.
+ * docs/C.md has the lines. include/example.c is a program over it:
  *
  *     struct cog_client client = {0};
+ *     struct delgunsai_step step = {0};
  *     struct cog_report report;
- *     uint8_t text[COG_REQUEST_ROOM], tag[COG_TAG_ROOM], piece[65536];
- *     struct cog_said said;
- *     int64_t length;
- *     int32_t fed;
- *     ssize_t got;
+ *     uint8_t text[16384], tag[COG_TAG_ROOM], bytes[65536];
+ *     size_t begin = 0, end = 0;
  *     if (cog_client_new(host, host_length, name, name_length, 256, &client) < 0) ..
+ *     cog_client_keep_open(&client);
+ *     cog_client_look_ahead(&client, 64);
  *     cog_client_open_window(&client, 3000, 2000, 256, 256, 0);
- *     while ((length = cog_client_request(&client, text, sizeof text)) > 0) {
- *         ..                                   send the text to the host; then, as the answer arrives:
- *         cog_client_begin(&client);
- *         fed = 0;
- *         while (fed == 0 && (got = read(socket, piece, sizeof piece)) > 0) fed = cog_client_feed(&client, piece, got);
- *         if (fed < 0 || cog_client_end(&client, &said) < 0) break;        no memory was left
- *         if (said.kind == COG_IGNORED) break;                             a 404, say; where it was cut, send the request again
- *         if (said.kind == COG_TOOK && said.number == 0) break;            cut before its first block: the same; but not for ever
+ *     while (step.kind != DELGUNSAI_OVER) {
+ *         if (delgunsai_client_go_on(&client, bytes + begin, end - begin, &step) < 0) ..      no memory was left
+ *         begin += step.taken;
+ *         switch (step.kind) {
+ *         case DELGUNSAI_CONNECT: ..            end the connection, make a new one
+ *             delgunsai_client_connected(&client); break;
+ *         case DELGUNSAI_WRITE:                 at most sizeof text bytes of it
+ *             length = delgunsai_client_waiting(&client, text, sizeof text);
+ *             delgunsai_client_wrote(&client, write(socket, text, length)); break;
+ *         case DELGUNSAI_LOOK:                  poll() without a wait, and where something is there go on as for DELGUNSAI_READ
+ *             delgunsai_client_silent(&client); break;
+ *         case DELGUNSAI_READ:                  into the front of `bytes`
+ *             begin = 0, end = read(socket, bytes, sizeof bytes); break;
+ *         case DELGUNSAI_EXCHANGED: ..          as step.said says: go on, or give up, as after a 404
+ *         }
+ *         ..                                    where a connection ends, fails or is late: delgunsai_client_gone(&client, how, &step)
  *     }
  *     if (cog_client_report(&client, &report, tag, sizeof tag) <= 0 || report.kind != COG_WINDOW) ..
- *     ..                                       pixels of report.width * report.height * report.samples * report.bits / 8 bytes
+ *     ..                                        pixels of report.width * report.height * report.samples * report.bits / 8 bytes
  *     cog_client_pixels(&client, pixels, pixels_length);
  *     cog_client_free(&client);
  *
+ * These calls, of the section "A driver", have all rules of HTTP. A caller with exchanges of its own, as one that answers the requests from
+ * a file, makes them by cog_client_request, cog_client_begin, cog_client_feed and cog_client_end.
+ *
  * For each call:
  *
- *   - A pointer is to as many bytes as the length behind it says, or to the struct. It isn't NULL, not even where the length is 0.
+ *   - A pointer is to as many bytes as the length after it says, or to the struct. It isn't NULL, not even where the length is 0.
  *     The library keeps no pointer of the caller's: memory that a call is given is the caller's again when the call returns. What a
  *     call writes to, another pointer of the same call isn't to.
  *   - Any call but cog_client_new and cog_client_free of a client that was never made, or is freed, gives COG_NO_CLIENT and does
@@ -42,7 +53,7 @@
  *     threads.
  *   - A negative result is one of COG_..; the others are said with each call.
  *   - A room is memory for a text: the result is the length of the text. Where that is more than the room's length, nothing was
- *     written, and the call can be made again with so much room.
+ *     written, and the call can be made again with a room of that length.
  *
  * What is reported is proved as the contracts of crates/delgunsai_c say, for callers that keep these rules. */
 #ifndef DELGUNSAI_H
@@ -59,6 +70,9 @@ extern "C" {
 /* The version of this header, and of the library that is installed with it. */
 #define DELGUNSAI_VERSION "0.1.0"
 
+/* delgunsai_version: returns that version, of the header that the program was compiled with. */
+static inline const char *delgunsai_version(void) { return DELGUNSAI_VERSION; }
+
 /* Why a call gives no answer. */
 enum {
     COG_HOST = -1,         /* the host isn't 1 to 64 letters, digits, '.', '-', ':' */
@@ -71,6 +85,21 @@ enum {
     COG_ORDER = -8         /* the call doesn't fit what is under way */
 };
 
+/* delgunsai_error: returns what a negative result says, as a sentence without a full stop. Any other number is "no error". */
+static inline const char *delgunsai_error(int32_t result) {
+    switch (result) {
+    case COG_HOST: return "the host isn't 1 to 64 letters, digits, '.', '-', ':'";
+    case COG_NAME: return "the name isn't 1 to 200 bytes of A-Z a-z 0-9 . _ - /";
+    case COG_BLOCKS: return "not 66 to 4,096 blocks";
+    case COG_MEMORY: return "no memory was left";
+    case COG_NO_CLIENT: return "the handle has no client";
+    case COG_NO_REPORT: return "no report stands";
+    case COG_OTHER_REPORT: return "the report is of another kind";
+    case COG_ORDER: return "the call doesn't fit what is under way";
+    default: return result < 0 ? "an error of another version" : "no error";
+    }
+}
+
 /* Room for any request, and for any tag of a file. */
 #define COG_REQUEST_ROOM 1024
 #define COG_TAG_ROOM 64
@@ -82,11 +111,12 @@ struct cog_client {
     bool full;
 };
 
-/* cog_client_new: makes a client of a file's name at a host, with a cache of so many blocks of 16,384 bytes, in the place of the one
- * before, which is freed.
- *   host, name   text, as it stands in requests: a host with its port, and a path without the slash it begins with
- *   blocks       66 to 4,096; of packed tiles as many bytes are kept unpacked, and room for one tile more
- *   client       the handle; where the result is negative, it is as it was
+/* cog_client_new: makes a client of a file's name at a host, with a cache of `blocks` blocks of 16,384 bytes. The one before is freed.
+ *
+ *   - host, name: text, as it stands in requests: a host with its port, and a path without the slash it begins with
+ *   - blocks: 66 to 4,096; of packed tiles as many bytes are kept unpacked, and room for one tile more
+ *   - client: the handle; where the result is negative, it is as it was
+ *
  * Gives 0, COG_HOST, COG_NAME, COG_BLOCKS, the first that stands against it, or COG_MEMORY. */
 int32_t cog_client_new(const uint8_t *host, size_t host_length, const uint8_t *name, size_t name_length, uint32_t blocks,
                        struct cog_client *client);
@@ -104,16 +134,16 @@ int32_t cog_client_forget(struct cog_client *client);
  * next one, and pixels can look like an answer. It ends it, too, where bytes come that no request asked for. Gives 0 or COG_NO_CLIENT. */
 int32_t cog_client_keep_open(struct cog_client *client);
 
-/* cog_client_look_ahead: looks ahead by so many blocks from here on: a request asks, behind the blocks that are missing of the range that is
- * needed next, for the blocks that follow, where each of them is missing and needed later, up to 65 in all, as far as the cache has room
+/* cog_client_look_ahead: looks ahead by `blocks` blocks from here on. A request asks for the blocks that are missing of the range that is
+ * needed next, and for those that follow. Each of these is missing and needed later. They are up to 65 in all, as far as the cache has room
  * for them. What is asked for already stays. Without this call it looks no block ahead. Gives 0 or COG_NO_CLIENT. */
 int32_t cog_client_look_ahead(struct cog_client *client, uint32_t blocks);
 
-/* cog_client_open_window: asks for the samples of w columns from x and h rows from y, in pixels of the level of this number, in the place
+/* cog_client_open_window: asks for the samples of w columns from x and h rows from y, in pixels of the level of this number, instead
  * of the query before. What is known of the file stays. Gives 0 or COG_NO_CLIENT. */
 int32_t cog_client_open_window(struct cog_client *client, uint32_t x, uint32_t y, uint32_t w, uint32_t h, uint32_t level);
 
-/* cog_client_open_columns: the same, in pixels of level 0, of the smallest level in which the window is at least so many columns wide,
+/* cog_client_open_columns: the same, in pixels of level 0, of the smallest level in which the window is at least `columns` columns wide,
  * before it is rounded outwards, level 0 if there is none. Gives 0 or COG_NO_CLIENT. */
 int32_t cog_client_open_columns(struct cog_client *client, uint32_t x, uint32_t y, uint32_t w, uint32_t h, uint32_t columns);
 
@@ -162,7 +192,7 @@ enum {
  * stored, its revision is the one that is read from now on, and cog_client_request goes on; this call isn't made again for it. */
 int32_t cog_client_end(struct cog_client *client, struct cog_said *said);
 
-/* What a report tells; 0 in what isn't of its kind. */
+/* What is reported; 0 in what isn't of its kind. */
 struct cog_report {
     uint32_t kind;
     uint32_t width;   /* of a window: columns, rows, samples of a pixel (1 or 3), bits of a sample (8 or 16) */
@@ -197,7 +227,7 @@ enum {
     COG_FAULT_KEY_PLACE = 18,    /* a geo key's values aren't where it says */
 };
 
-/* cog_client_report: what the report tells that stands, and the file's tag, a strong validator with its quotes, into the room. The report
+/* cog_client_report: lays the report that stands, and the file's tag, a strong validator with its quotes, into the room. The report
  * stands until the next query or cog_client_forget. Gives the tag's length; 0, where no report stands, and then nothing is written;
  * COG_NO_CLIENT. The report is written also where the room is too small for the tag. */
 int64_t cog_client_report(struct cog_client *client, struct cog_report *report, uint8_t *room, size_t length);
@@ -210,7 +240,7 @@ int64_t cog_client_pixels(struct cog_client *client, uint8_t *room, size_t lengt
  * computer that has the least significant one first. A last byte without a pair stays. It is of no client. */
 void cog_swap_pairs(uint8_t *room, size_t length);
 
-/* cog_client_info: the text of what Info tells that is reported, into the room: the lines of `cogread info`. Gives its length,
+/* cog_client_info: lays the text of the Info that is reported into the room: the lines of `cogread info`. Gives its length,
  * COG_NO_REPORT, COG_OTHER_REPORT, COG_MEMORY or COG_NO_CLIENT. */
 int64_t cog_client_info(struct cog_client *client, uint8_t *room, size_t length);
 
@@ -221,7 +251,7 @@ int64_t cog_client_check(struct cog_client *client, uint8_t *room, size_t length
 
 enum { COG_SAME = 1, COG_OTHER = 2, COG_UNKNOWN = 3 /* for this reason: 1 to 6 or 9 as COG_IGNORED, or 12: nothing is known */ };
 
-/* cog_client_current: says what the answer to a check, or a front of it, tells of the tag. It changes nothing of the client. Gives 0 or
+/* cog_client_current: reports what the answer to a check, or a front of it, says of the tag. It changes nothing of the client. Gives 0 or
  * COG_NO_CLIENT. */
 int32_t cog_client_current(struct cog_client *client, const uint8_t *answer, size_t length, struct cog_said *said);
 

@@ -61,7 +61,7 @@ def compiler() -> List[str]:
 def calls() -> List[str]:
     """The calls of the library that _core.py makes."""
     text = (HERE / 'delgunsai/_core.py').read_text()
-    return sorted({f'cog_client_{name}' for name in re.findall(r"(?m)^        '(\w+)': \(", text)} | set(re.findall(r'_library\.(cog_\w+)', text)))
+    return re.findall(r"(?m)^        \('(\w+)', ", text)
 
 
 def link(words: List[str], library: pathlib.Path) -> None:

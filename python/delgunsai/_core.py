@@ -2,10 +2,9 @@
 from __future__ import annotations
 
 import ctypes
-import enum
 import pathlib
 import sys
-from typing import Any, List, Optional, Tuple, Union
+from typing import Any, Optional, Tuple, Union
 
 import numpy
 from numpy.typing import NDArray
@@ -15,15 +14,16 @@ from ._errors import OutOfMemory
 NO_REPORT, WINDOW, INFO, FAULT = 0, 1, 2, 3
 TOOK, RESTARTED, IGNORED = 1, 2, 3
 SAME, OTHER, UNKNOWN = 1, 2, 3
+CONNECT, WRITE, READ, LOOK, EXCHANGED, CHECKED, OVER, MORE = range(1, 9)
+ENDED, FAILED, LATE = 1, 2, 3
 
-ABI = 1
+ABI = 2
 """That of wire.c."""
-REQUESTS, REQUEST_ROOM, TAG_ROOM = 9, 1024, 64
+REQUEST_ROOM, TAG_ROOM, WAITING_ROOM = 1024, 64, 16384
+ROOM = 1 << 17
 AHEAD = 64
 EXCHANGES = 65536
 MEMORY = -4
-LONG = frozenset(('new', 'free', 'forget', 'request', 'feed', 'end', 'pixels', 'info'))
-"""The calls that may go over blocks, samples or keys."""
 HUGE = 1 << 22
 """From how many bytes on numpy asks for huge pages."""
 
@@ -48,78 +48,87 @@ class Report(ctypes.Structure):
     _fields_ = [(name, ctypes.c_uint32) for name in ('kind', 'width', 'height', 'samples', 'bits', 'fault', 'field')]
 
 
+class Step(ctypes.Structure):
+    """struct delgunsai_step."""
+    _fields_ = [('taken', ctypes.c_uint64), ('kind', ctypes.c_uint32), ('said', Said), ('status', ctypes.c_uint32), ('alone', ctypes.c_uint32)]
+
+
 class Wire(ctypes.Structure):
-    """struct wire of wire.c."""
-    _fields_ = [('socket', ctypes.c_int32), ('timeout', ctypes.c_int32),
-                *((name, ctypes.c_uint32) for name in ('depth', 'phase', 'count', 'first', 'sent', 'bytes', 'ahead', 'kept')),
-                *((name, ctypes.c_uint32) for name in ('asked', 'exchanges')), ('error', ctypes.c_int32), ('said', Said),
-                *((name, ctypes.c_int64) for name in ('until', 'slice')), ('left', ctypes.c_uint64), ('room', ctypes.c_void_p),
-                *((name, ctypes.c_size_t) for name in ('size', 'begin', 'end')),
-                ('lengths', ctypes.c_uint32 * REQUESTS), ('texts', ctypes.c_char * REQUEST_ROOM * REQUESTS)]
+    """struct wire of wire.c, with room for the bytes that come."""
+    _fields_ = [('socket', ctypes.c_int32), ('goes_on', ctypes.c_uint32), ('lost', ctypes.c_uint32), ('error', ctypes.c_int32),
+                ('step', Step), ('room', ctypes.c_void_p), *((name, ctypes.c_size_t) for name in ('size', 'begin', 'end'))]
 
-    def requests(self) -> List[bytes]:
-        """Those that were sent and aren't answered, in order."""
-        places = [(self.first + k) % REQUESTS for k in range(self.count)]
-        return [self.texts[place].raw[:self.lengths[place]] for place in places]
+    def __init__(self) -> None:
+        self.bytes = memoryview(bytearray(ROOM))
+        super().__init__(socket=-1, room=ctypes.addressof(Front.from_buffer(self.bytes)), size=ROOM)
 
 
-class Stop(enum.IntEnum):
-    """Where exchanges stop, as in wire.c."""
-    REPORT, ELSE, ODD, ENDED, BEFORE, HEADLESS, MIDST, INTERRUPTED, MEMORY, MANY = range(1, 11)
+class Many(ctypes.Structure):
+    """struct many of wire.c."""
+    _fields_ = [('wants', ctypes.c_void_p), *((name, ctypes.c_uint32) for name in ('count', 'level', 'swapped', 'done', 'is_asked')),
+                ('like', Report), ('tag', ctypes.c_char_p), ('tag_length', ctypes.c_size_t)]
 
 
 WANT = numpy.dtype([*((name, 'u4') for name in ('x', 'y', 'width', 'height')), ('place', numpy.uintp)])
 """struct want of wire.c."""
 
 
+def _calls() -> Tuple[Any, ...]:
+    """Returns each call of the library: its name, what it takes and gives, and whether it may go over blocks, samples or keys."""
+    client, text, room, number = ctypes.POINTER(Handle), ctypes.c_char_p, ctypes.c_void_p, ctypes.c_uint32
+    size, result, length = ctypes.c_size_t, ctypes.c_int32, ctypes.c_int64
+    said, step, wire = ctypes.POINTER(Said), ctypes.POINTER(Step), ctypes.POINTER(Wire)
+    return (
+        ('cog_client_new', result, [text, size, text, size, number, client], True),
+        ('cog_client_free', None, [client], True),
+        ('cog_client_forget', result, [client], True),
+        ('cog_client_keep_open', result, [client], False),
+        ('cog_client_look_ahead', result, [client, number], False),
+        ('cog_client_open_window', result, [client] + [number] * 5, False),
+        ('cog_client_open_columns', result, [client] + [number] * 5, False),
+        ('cog_client_open_info', result, [client], False),
+        ('cog_client_request', length, [client, room, size], True),
+        ('cog_client_begin', result, [client], False),
+        ('cog_client_feed', result, [client, room, size], True),
+        ('cog_client_end', result, [client, said], True),
+        ('cog_client_report', length, [client, ctypes.POINTER(Report), room, size], False),
+        ('cog_client_pixels', length, [client, room, size], True),
+        ('cog_client_info', length, [client, room, size], True),
+        ('cog_client_check', length, [client, room, size], False),
+        ('cog_client_current', result, [client, text, size, said], False),
+        ('cog_swap_pairs', None, [room, size], True),
+        ('delgunsai_client_waiting', length, [client, room, size], False),
+        ('delgunsai_client_wrote', result, [client, size], False),
+        ('delgunsai_client_connected', result, [client], False),
+        ('delgunsai_client_silent', result, [client], False),
+        ('delgunsai_client_gone', result, [client, number, step], True),
+        ('delgunsai_client_exchanges', result, [client, number], False),
+        ('delgunsai_client_ask_same', result, [client], False),
+        ('delgunsai_carry', result, [client, wire], True),
+        ('delgunsai_read', result, [client, wire, ctypes.POINTER(Many)], True),
+    )
+
+
 def _check(library: ctypes.CDLL, path: pathlib.Path) -> None:
     """Refuses a library of other sources than these: its calls would write past what is handed to them."""
-    calls = [getattr(library, name, None) for name in ('delgunsai_abi', 'delgunsai_wire_size')]
-    if [call and call() for call in calls] != [ABI, ctypes.sizeof(Wire)]:
+    calls = [getattr(library, name, None) for name in ('delgunsai_abi', 'delgunsai_wire_size', 'delgunsai_many_size')]
+    if [call and call() for call in calls] != [ABI, ctypes.sizeof(Wire), ctypes.sizeof(Many)]:
         raise ImportError(f'{path} is of another version than the modules beside it: `pip install` the package again')
 
 
 def _load() -> ctypes.CDLL:
+    """Loads the shared library beside this module."""
     path = pathlib.Path(__file__).parent / 'libdelgunsai.so'
     if not path.exists():
         raise ImportError(f'{path} is missing: `pip install ./python` compiles it')
     library = ctypes.CDLL(str(path))
     _check(library, path)
     held = ctypes.PyDLL(str(path))       # keeps the interpreter's lock in short calls: beside a busy thread it takes up to 5 ms to get it back
-    client, text, room, number = ctypes.POINTER(Handle), ctypes.c_char_p, ctypes.c_void_p, ctypes.c_uint32
-    calls = {
-        'new': (ctypes.c_int32, [text, ctypes.c_size_t, text, ctypes.c_size_t, number, client]),
-        'free': (None, [client]),
-        'forget': (ctypes.c_int32, [client]),
-        'keep_open': (ctypes.c_int32, [client]),
-        'look_ahead': (ctypes.c_int32, [client, number]),
-        'open_window': (ctypes.c_int32, [client] + [number] * 5),
-        'open_columns': (ctypes.c_int32, [client] + [number] * 5),
-        'open_info': (ctypes.c_int32, [client]),
-        'request': (ctypes.c_int64, [client, room, ctypes.c_size_t]),
-        'later': (ctypes.c_int64, [client, number, room, ctypes.c_size_t]),
-        'begin': (ctypes.c_int32, [client]),
-        'feed': (ctypes.c_int32, [client, room, ctypes.c_size_t]),
-        'end': (ctypes.c_int32, [client, ctypes.POINTER(Said)]),
-        'report': (ctypes.c_int64, [client, ctypes.POINTER(Report), room, ctypes.c_size_t]),
-        'pixels': (ctypes.c_int64, [client, room, ctypes.c_size_t]),
-        'info': (ctypes.c_int64, [client, room, ctypes.c_size_t]),
-        'check': (ctypes.c_int64, [client, room, ctypes.c_size_t]),
-        'current': (ctypes.c_int32, [client, text, ctypes.c_size_t, ctypes.POINTER(Said)]),
-    }
-    for name, (result, arguments) in calls.items():
-        call = getattr(library if name in LONG else held, 'cog_client_' + name)
+    for name, result, arguments, is_long in _calls():
+        call = getattr(library if is_long else held, name)
         call.restype = result
         call.argtypes = arguments
-        setattr(library, 'cog_client_' + name, call)
-    wire = ctypes.POINTER(Wire)
-    library.delgunsai_ask.restype = ctypes.c_int32
-    library.delgunsai_ask.argtypes = [client, wire]
-    library.delgunsai_read.restype = ctypes.c_int32
-    library.delgunsai_read.argtypes = [client, wire, room, number, number, number, ctypes.POINTER(Report), text, ctypes.c_size_t,
-                                       ctypes.POINTER(number)]
-    library.cog_swap_pairs.restype = None
-    library.cog_swap_pairs.argtypes = [room, ctypes.c_size_t]
+        setattr(library, name, call)
     return library
 
 
@@ -136,12 +145,12 @@ def _checked(result: int) -> int:
 
 
 def shape(report: Report, width: int, height: int) -> Tuple[int, ...]:
-    """The shape of a window of samples as this report tells of."""
+    """The shape of a window of samples of this report."""
     return (height, width) if report.samples == 1 else (height, width, report.samples)
 
 
 def room(report: Report, count: int) -> NDArray[Any]:
-    """Room for so many samples as this report tells of; a large one has huge pages, where the system gives any."""
+    """Room for `count` samples of this report; a large one has huge pages, where the system gives any."""
     kind = WIDE if report.bits == 16 else NARROW
     huge = HUGE // kind.itemsize
     samples: NDArray[Any] = numpy.empty(max(count, huge) if 2 * count > huge else count, kind)
@@ -155,6 +164,8 @@ class Core:
         self._handle = Handle()
         self._at = ctypes.byref(self._handle)
         self._room = ctypes.create_string_buffer(REQUEST_ROOM)
+        self._waiting = memoryview(bytearray(WAITING_ROOM))
+        self._waiting_at = ctypes.addressof(Front.from_buffer(self._waiting))
         self._report = Report()
         self._report_at = ctypes.byref(self._report)
         _checked(_library.cog_client_new(host, len(host), name, len(name), blocks, self._at))
@@ -162,45 +173,69 @@ class Core:
         _checked(_library.cog_client_look_ahead(self._at, AHEAD))
 
     def forget(self) -> None:
+        """Drops all that is known of the file, and what is under way."""
         _checked(_library.cog_client_forget(self._at))
 
     def free(self) -> None:
+        """Frees the client. No other call is made after it."""
         _library.cog_client_free(self._at)
 
     def open_window(self, x: int, y: int, width: int, height: int, level: int) -> None:
+        """Asks for a window of a level, and drops what is under way."""
         _checked(_library.cog_client_open_window(self._at, x, y, width, height, level))
 
     def open_columns(self, x: int, y: int, width: int, height: int, columns: int) -> None:
+        """Asks for a window of the level that has these columns, and drops what is under way."""
         _checked(_library.cog_client_open_columns(self._at, x, y, width, height, columns))
 
     def open_info(self) -> None:
+        """Asks for the sizes of the levels and what georeferences the image, and drops what is under way."""
         _checked(_library.cog_client_open_info(self._at))
+
+    def carry(self, wire: Wire) -> None:
+        """Goes on over a wire, as far as it can without the interpreter. The wire's step says what is to be done then."""
+        _checked(_library.delgunsai_carry(self._at, ctypes.byref(wire)))
+
+    def read(self, wire: Wire, many: Many) -> None:
+        """Does the same, and reads one window of many after another. The step is OVER after the last one, and where the report that stands
+        is of another kind."""
+        _checked(_library.delgunsai_read(self._at, ctypes.byref(wire), ctypes.byref(many)))
+
+    def gone(self, how: int, wire: Wire) -> None:
+        """Notes how the connection was lost. The wire's step says what is to be done then. Bytes that weren't taken are dropped."""
+        wire.begin = wire.end = 0
+        _checked(_library.delgunsai_client_gone(self._at, how, ctypes.byref(wire.step)))
+
+    def drop(self, wire: Wire) -> None:
+        """Gives up what is under way, and the connection. The server isn't to blame."""
+        _checked(_library.delgunsai_client_exchanges(self._at, EXCHANGES))
+        self.gone(ENDED, wire)
+
+    def waiting(self) -> memoryview:
+        """Returns the first bytes that are to be written, up to the next call."""
+        length = _checked(_library.delgunsai_client_waiting(self._at, self._waiting_at, WAITING_ROOM))
+        return self._waiting[:length]
+
+    def wrote(self, count: int) -> None:
+        """Notes how many of the bytes that waited were written."""
+        _checked(_library.delgunsai_client_wrote(self._at, count))
+
+    def connected(self) -> None:
+        """Notes that a new connection is there."""
+        _checked(_library.delgunsai_client_connected(self._at))
+
+    def silent(self) -> None:
+        """Notes that nothing came on the connection before the request is written."""
+        _checked(_library.delgunsai_client_silent(self._at))
+
+    def ask_same(self) -> bool:
+        """Begins the check whether the file is the same, and returns whether one can be made: something of the file is known."""
+        return _checked(_library.delgunsai_client_ask_same(self._at)) > 0
 
     def request(self) -> Optional[bytes]:
         """The next request; None where a report stands, or nothing is asked."""
         length = _checked(_library.cog_client_request(self._at, self._room, REQUEST_ROOM))
         return self._room.raw[:length] if length else None
-
-    def later(self, most: int, known: List[bytes]) -> List[bytes]:
-        """The requests that will come after the next one, as far as they are known before its answer, and at most so many. The first of
-        them are these, which were told before."""
-        requests = known[:most]
-        while len(requests) < most:
-            length = _checked(_library.cog_client_later(self._at, len(requests), self._room, REQUEST_ROOM))
-            if length == 0:
-                break
-            requests.append(self._room.raw[:length])
-        return requests
-
-    def ask(self, wire: Wire) -> int:
-        """Exchanges over a wire until a report stands, or until it stops elsewhere."""
-        return int(_library.delgunsai_ask(self._at, ctypes.byref(wire)))
-
-    def read(self, wire: Wire, wants: NDArray[Any], level: int, like: Report, tag: bytes, done: ctypes.c_uint32) -> int:
-        """Reads these windows of a level from the one on at which `done` is, as long as their reports are like this one, and of this tag."""
-        swapped = like.bits == 16 and sys.byteorder == 'little'
-        return int(_library.delgunsai_read(self._at, ctypes.byref(wire), wants.ctypes.data, len(wants), level, swapped, ctypes.byref(like),
-                                           tag, len(tag), ctypes.byref(done)))
 
     def check(self) -> Optional[bytes]:
         """The request that asks whether the file is the same; None where nothing of it is known."""
@@ -208,18 +243,22 @@ class Core:
         return self._room.raw[:length] if length else None
 
     def begin(self) -> None:
+        """Begins an answer."""
         _checked(_library.cog_client_begin(self._at))
 
     def feed(self, piece: Piece) -> None:
+        """Takes the next bytes of the answer."""
         place = piece if isinstance(piece, bytes) else Front.from_buffer(piece)
         _checked(_library.cog_client_feed(self._at, place, len(piece)))
 
     def end(self) -> Tuple[int, int]:
+        """Ends the answer, and returns what it did, as `cog_said` has it."""
         said = Said()
         _checked(_library.cog_client_end(self._at, ctypes.byref(said)))
         return said.kind, said.number
 
     def current(self, answer: bytes) -> Tuple[int, int]:
+        """Returns what the answer to a check says, as `cog_said` has it."""
         said = Said()
         _checked(_library.cog_client_current(self._at, answer, len(answer), ctypes.byref(said)))
         return said.kind, said.number
@@ -231,7 +270,7 @@ class Core:
         return self._report, self._room.raw[:length]
 
     def pixels(self, report: Report) -> NDArray[Any]:
-        """The samples of the window that this report tells of, a row for each of its rows."""
+        """The samples of the window that is reported, a row for each of its rows."""
         wide = report.bits == 16
         array: NDArray[Any] = numpy.empty(shape(report, report.width, report.height), WIDE if wide else NARROW)
         place = Front.from_buffer(array.data)
@@ -242,7 +281,7 @@ class Core:
         return array
 
     def info(self) -> str:
-        """The text of what Info tells."""
+        """The text of an Info that is reported."""
         room = ctypes.create_string_buffer(65536)
         length = _checked(_library.cog_client_info(self._at, room, len(room)))
         if length > len(room):

@@ -4,19 +4,26 @@ from __future__ import annotations
 import os
 import re
 import threading
-from typing import BinaryIO, Callable, Iterator, List, Optional, Tuple, Type, Union
+from typing import BinaryIO, Callable, Iterator, Optional, Tuple, Type, Union
 
-from ._core import Core, Wire
+from . import _core
+from ._core import Core, Piece, Said, Step
+from ._handlers import of_handler
 from ._limit import Limit
-from ._sources import FRONT, RANGE, Carried, Take
+from ._sources import Carry, Judge
+
+FRONT = 65536
+"""How many bytes of a file that was replaced are of use."""
+RANGE = re.compile(rb'\r\nRange: bytes=([0-9]+)-([0-9]+)\r\n')
+Take = Callable[[Piece], None]
+"""Takes a piece of an answer."""
 
 
 class Disk:
     """A file of the disk, which answers by ranges as a server would. Its tag is of its place, its length and its last change. An answer
     is handed on only where the file didn't change while it was read."""
 
-    depth, shared = 0, False
-    sent: List[bytes] = []
+    carries = False
     final: Tuple[Type[OSError], ...] = (FileNotFoundError, IsADirectoryError, NotADirectoryError, PermissionError)
 
     def __init__(self, path: Union[str, os.PathLike[str]]) -> None:
@@ -26,7 +33,9 @@ class Disk:
             pass
         self.where = name if os.path.isabs(name) else os.path.join(os.getcwd(), name)
 
-    def exchange(self, request: bytes, later: List[bytes], take: Take) -> None:
+    def exchange(self, request: bytes, take: Take) -> int:
+        """Hands each piece of the answer to `take`, in order, and returns its status. Fails with an `OSError` where the file can't be read, or
+        changed while it was read, and then hands on nothing."""
         with open(self.where, 'rb', buffering=0) as file:
             state = os.fstat(file.fileno())
             size = state.st_size
@@ -37,12 +46,30 @@ class Disk:
                 raise OSError('the file changed while it was read')
         for piece in pieces:
             take(piece)
+        return int(pieces[0][9:12])
 
-    def carries(self) -> bool:
-        return False
+    def run(self, core: Core, judge: Judge, carry: Carry) -> None:
+        for _ in range(_core.EXCHANGES):
+            request = core.request()
+            if request is None:
+                return
+            failed: Optional[Exception] = None
+            status = 0
+            core.begin()
+            try:
+                status = self.exchange(request, core.feed)
+            except self.final:
+                raise
+            except OSError as error:
+                if of_handler(error):
+                    raise
+                failed = error.with_traceback(None)
+            judge(Step(kind=_core.EXCHANGED, said=Said(*core.end()), status=status, alone=1), failed)
 
-    def carry(self, core: Core, run: Callable[[Wire], int]) -> Optional[Carried]:
-        return None
+    def check(self, core: Core) -> Tuple[int, int, int]:
+        request, answer = core.check(), bytearray()
+        status = self.exchange(request, answer.extend) if request else 0
+        return (*core.current(bytes(answer)), status)
 
     def another(self) -> 'Disk':
         return Disk(self.where)
@@ -56,10 +83,7 @@ class Disk:
     def forked(self, busy: bool) -> None:
         pass
 
-    def settle(self, used: bool) -> None:
-        pass
-
-    def close(self) -> None:
+    def close(self, core: Core) -> None:
         pass
 
 

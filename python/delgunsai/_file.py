@@ -1,25 +1,24 @@
 """A file that is read by windows."""
 from __future__ import annotations
 
-import ctypes
 import dataclasses
 import os
-import re
+import sys
 import threading
 import weakref
-from typing import Any, Callable, Iterable, List, NoReturn, Optional, Sequence, Set, SupportsIndex, Tuple, TypeVar, Union
+from typing import Any, Callable, Iterable, List, NoReturn, Optional, Sequence, Set, SupportsIndex, Tuple, TypeVar
 
 import numpy
 from numpy.typing import NDArray
 
 from . import _core
-from ._core import Core, Piece
+from ._core import Core, Many, Report, Step
 from ._errors import Error, Lost, NotUsed, fault_of
 from ._handlers import of_handler
 from ._info import Info, read_info
 from ._numbers import number_of, numbers_of, rows_of
 from ._raster import Raster
-from ._sources import Carried, Source
+from ._sources import Source
 from ._threads import side_by_side
 
 Result = TypeVar('Result')
@@ -32,13 +31,11 @@ EACH = 4
 MOST_SAMPLES = 4_194_304
 CUT, REVISION, LENGTH = 1, 10, 11
 UNSATISFIABLE = 416
-FRONT = 16
-PART = b'HTTP/1.1 206'
 
 
 class File(Raster):
     """A file that is read by windows, each of one revision. One that was replaced is read as the new one from then on, and never mixed:
-    `tag` tells which revision was read last, `read_tagged()` that of an array, and `same()` asks the server.
+    `tag` says which revision was read last, `read_tagged()` returns that of an array, and `same()` asks the server.
 
     >>> with open_file('docs/example.tif') as f:                                    # doctest: +SKIP
     ...     f.read(x=24, y=30, width=16, height=4).shape
@@ -50,7 +47,6 @@ class File(Raster):
         self._client = host, name, blocks
         self._others: List[File] = []
         self._begin()
-        self._front = b''
         self._open = True
         _files.add(self)
 
@@ -59,6 +55,8 @@ class File(Raster):
         self._core = Core(*self._client)
         self._lock = threading.RLock()
         self._busy = False
+        self._failures = self._restarts = 0
+        """How many exchanges of the query in a row brought nothing, and how many times the file was replaced."""
         self._tag: Optional[str] = None
         self._info: Optional[Info] = None
 
@@ -86,7 +84,7 @@ class File(Raster):
                 self._open = False
                 for other in self._others:
                     other.close()
-                self._source.close()
+                self._source.close(self._core)
                 self._core.free()
 
     @property
@@ -160,9 +158,9 @@ class File(Raster):
 
     def read_windows(self, windows: Iterable[Sequence[SupportsIndex]], *, level: SupportsIndex = 0,
                      connections: SupportsIndex = 8) -> List[NDArray[Any]]:
-        """What `read` gives of each of these windows (x, y, width, height), in their order, all of one revision, which `tag` tells then. They
-        are read side by side over up to so many connections, 1 to 64, each with as many blocks, which are kept until `close`. Up to 64 arrays
-        may lie in one piece of memory, of 4 MiB at most, or 8 MiB of 16 bits.
+        """What `read` gives of each of these windows (x, y, width, height), in their order, all of one revision, which `tag` has then. They
+        are read side by side over at most `connections` connections, 1 to 64, each with as many blocks, which are kept until `close`. Up to 64
+        arrays may lie in one piece of memory, of 4 MiB at most, or 8 MiB of 16 bits.
 
         Fails as `read` does of one window, and gives no array then. Windows of other than four numbers are a `ValueError`.
 
@@ -175,7 +173,7 @@ class File(Raster):
     @property
     def info(self) -> Info:
         """What georeferences the image: keys, scale, tiepoint and transform as numbers. Where it has to be asked for it may be of a newer
-        revision than what was read before: `info.tag` tells of which, to be compared with that of `read_tagged`.
+        revision than what was read before: `info.tag` says of which, to be compared with that of `read_tagged`.
 
         Fails as `read` does.
 
@@ -200,7 +198,7 @@ class File(Raster):
         return self._alone(self._ask)
 
     def _alone(self, do: Callable[..., Result], *words: Any) -> Result:
-        """What this gives, of an open file that no other thread uses meanwhile; an exception tells the place of the file."""
+        """What this gives, of an open file that no other thread uses meanwhile; an exception has the place of the file."""
         with self._lock:
             self._check_idle()
             if not self._open:
@@ -228,7 +226,7 @@ class File(Raster):
         else:
             if os.getpid() == process:
                 return result
-        self._source.close()
+        self._source.close(self._core)
         self._begin()
         raise RuntimeError('a signal handler made a process, in which the interrupted call has no connection and no threads')
 
@@ -273,49 +271,50 @@ class File(Raster):
                until: Optional[float]) -> Set[str]:
         """Reads the windows in these rows into the list, unless it is to stop, or the call has its end, and gives their tags."""
         tags: Set[str] = set()
-        like: Optional[Tuple[_core.Report, str]] = None
+        like: Optional[Tuple[Report, str]] = None
         at = 0
         self._source.begin(stop)
         self._source.limit.until = until
         while at < len(share) and not stop.is_set():
-            carried = None
-            if like is not None and self._source.carries():
+            is_asked = False
+            if like is not None and self._source.carries:
                 some = share[at:at + SOME]
-                done, carried = self._some(rows, some, level, arrays, *like)
+                done, is_asked = self._some(rows, some, level, arrays, *like)
                 at += done
                 if done == len(some):
                     continue
             row = share[at]
-            if carried is None:
+            if not is_asked:
                 x, y, width, height = rows[row].tolist()
                 self._core.open_window(x, y, width, height, level)
-            report, tag = self._report(carried)
+                self._exchange()
+            report, tag = self._told()
             arrays[row] = self._core.pixels(report)
-            like = _core.Report.from_buffer_copy(report), tag
+            like = Report.from_buffer_copy(report), tag
             tags.add(tag)
             at += 1
         return tags
 
-    def _some(self, rows: NDArray[Any], share: NDArray[Any], level: int, arrays: List[Any], like: _core.Report,
-              tag: str) -> Tuple[int, Optional[Carried]]:
-        """Reads the first of the windows in these rows without the interpreter, as far as the report of each is like this one, and says how
-        many, and how the next one is left, which is asked for; None where it isn't."""
+    def _some(self, rows: NDArray[Any], share: NDArray[Any], level: int, arrays: List[Any], like: Report, tag: str) -> Tuple[int, bool]:
+        """Reads the first of the windows in these rows without the interpreter, as far as the report of each is like this one. Returns their
+        number, and whether the report of the next one stands."""
         wants = numpy.zeros(len(share), _core.WANT)
         for column, name in enumerate(('x', 'y', 'width', 'height')):
             wants[name] = rows[share, column]
         ends = numpy.cumsum(numpy.minimum(wants['width'].astype('u8') * wants['height'], MOST_SAMPLES + 1) * like.samples)
         count = max(1, int(numpy.searchsorted(ends, MOST_SAMPLES, 'right')))
         if ends[count - 1] > MOST_SAMPLES:
-            return 0, None                                 # a fault, for which no room is made
+            return 0, False                                # a fault, for which no room is made
         room = _core.room(like, int(ends[count - 1]))
         wants['place'] = room.ctypes.data + numpy.concatenate(([0], ends[:-1])).astype('u8') * room.itemsize
-        done = ctypes.c_uint32()
-        carried = self._source.carry(self._core, lambda wire: self._core.read(wire, wants[:count], level, like, tag.encode('latin-1'), done))
+        many = Many(wants=wants.ctypes.data, count=count, level=level, swapped=like.bits == 16 and sys.byteorder == 'little', like=like,
+                    tag=tag.encode('latin-1'), tag_length=len(tag))
+        self._exchange(many)
         first = 0
-        for row, end, (width, height) in zip(share[:done.value].tolist(), ends.tolist(), rows[share, 2:].tolist()):
+        for row, end, (width, height) in zip(share[:many.done].tolist(), ends.tolist(), rows[share, 2:].tolist()):
             arrays[row] = room[first:end].reshape(_core.shape(like, width, height))
             first = end
-        return done.value, carried if done.value < count else None
+        return many.done, many.done < count
 
     def _read_info(self) -> Info:
         if self._info is None or self._info.tag != self._tag:
@@ -325,16 +324,15 @@ class File(Raster):
         return dataclasses.replace(self._info, keys=dict(self._info.keys))     # a caller may change its own
 
     def _ask(self) -> bool:
-        request = self._core.check()
+        """Returns whether the file still is the revision that was read last."""
         if self._tag is None:
             raise Error('nothing of the file was read yet')
-        if request is None or f'\r\nIf-None-Match: {self._tag}\r\n'.encode('latin-1') not in request:
+        if f'\r\nIf-None-Match: {self._tag}\r\n'.encode('latin-1') not in (self._core.check() or b''):
             return False                                   # the core met another revision since, in a read that was lost
         failed: Optional[OSError] = None
         for _ in range(TRIES):
-            answer = bytearray()
             try:
-                self._source.exchange(request, [], answer.extend)
+                kind, reason, status = self._source.check(self._core)
             except self._source.final:
                 raise
             except OSError as error:
@@ -342,94 +340,65 @@ class File(Raster):
                     raise
                 failed = error.with_traceback(None)            # whose frames hold it, and this File
                 continue
-            kind, reason = self._core.current(bytes(answer))
             if kind != _core.UNKNOWN:
                 return kind == _core.SAME
             if reason != CUT:
-                raise NotUsed(reason, _status_of(bytes(answer)))
+                raise NotUsed(reason, status or None)
         raise Lost(f'no whole answer in {TRIES} exchanges' + (f': {failed}' if failed else '')) from failed
 
-    def _report(self, carried: Optional[Carried] = None) -> Tuple[_core.Report, str]:
-        """Exchanges until a report stands, and gives it with its tag, or raises its fault. Some may have been made without the interpreter."""
-        failed: Optional[Exception] = None
-        failures = restarts = 0
-        for _ in range(_core.EXCHANGES):
-            if carried is None and failures == 0 and restarts < TRIES:
-                carried = self._source.carry(self._core, self._core.ask)
-            if carried is not None and carried.kind:
-                self._front = PART
-                kind, failed = self._brought(b'', carried.kind, carried.number, carried.lost)
-            else:
-                request = None if carried is not None and carried.report else self._core.request()
-                if request is None:
-                    return self._told()
-                if failures == TRIES and isinstance(failed, NotUsed) and _tells_another(failed, request):
-                    self._core.forget()                        # the server passes If-Range over, or gives one tag to two files
-                    self._info, failures, restarts = None, 0, restarts + 1
-                    continue
-                if failures == TRIES:
-                    raise Lost(f'no whole answer in {TRIES} exchanges: {failed}') from failed
-                if restarts == TRIES:
-                    raise Lost(f'the file was replaced {TRIES} times while it was read')
-                kind, failed = self._exchange(request)
-            carried = None
-            failures = failures + 1 if failed else 0
-            restarts += kind == _core.RESTARTED
-        raise Lost(f'no report in {_core.EXCHANGES} exchanges')
+    def _report(self) -> Tuple[Report, str]:
+        """Exchanges until a report stands, and gives it with its tag, or raises its fault."""
+        self._exchange()
+        return self._told()
 
-    def _told(self) -> Tuple[_core.Report, str]:
+    def _exchange(self, many: Optional[Many] = None) -> None:
+        """Exchanges until a report stands, or the reports of many windows are read."""
+        self._failures = self._restarts = 0
+        core = self._core
+        self._source.run(core, self._judge, core.carry if many is None else lambda wire: core.read(wire, many))
+
+    def _told(self) -> Tuple[Report, str]:
         """The report that stands, with its tag, or its fault, which is raised."""
         report, tag = self._core.report()
+        if report.kind == _core.NO_REPORT:
+            raise Lost(f'no report in {_core.EXCHANGES} exchanges')
         self._tag = tag.decode('latin-1')
         if report.kind == _core.FAULT:
             raise fault_of(report.fault, report.field)
         return report, self._tag
 
-    def _exchange(self, request: bytes) -> Tuple[int, Optional[Exception]]:
-        """One exchange. Gives the kind of its answer, and why it brought nothing, where another may bring more: a refusal of requests that
-        were sent at once may be of their number."""
-        self._front = b''
-        self._core.begin()
-        lost: Optional[Exception] = None
-        try:
-            known = self._source.sent[1:] if self._source.sent[:1] == [request] else []
-            self._source.exchange(request, self._core.later(self._source.depth, known), self._feed)
-        except self._source.final:
-            raise
-        except OSError as error:
-            if of_handler(error):
-                raise
-            lost = error.with_traceback(None)
-        return self._brought(request, *self._core.end(), lost)
-
-    def _brought(self, request: bytes, kind: int, number: int, lost: Optional[Exception]) -> Tuple[int, Optional[Exception]]:
-        """What is said of the answer to this request, and why it brought nothing."""
-        used = kind == _core.RESTARTED or kind == _core.TOOK and number > 0
-        self._source.settle(used)
-        if used:
-            return kind, None
-        if kind == _core.TOOK:
-            return kind, lost or EOFError('the last one ends before its first block')
-        refusal = NotUsed(number, _status_of(self._front))
-        if number != CUT and number < REVISION and not self._source.shared and not _tells_another(refusal, request):
+    def _judge(self, step: Step, lost: Optional[Exception]) -> bool:
+        """Counts exchanges that bring nothing, and returns whether this one brought something. Raises a refusal of a request that was sent
+        alone, and `Lost` after too many. A refusal of requests that were sent at once may be of their number."""
+        kind, number = step.said.kind, step.said.number
+        if kind == _core.RESTARTED or kind == _core.TOOK and number > 0:
+            self._failures = 0
+            if kind == _core.RESTARTED:
+                self._restart()
+            return True
+        self._failures += 1
+        refusal = None if kind == _core.TOOK else NotUsed(number, step.status or None)
+        is_other = refusal is not None and self._is_of_another(refusal)
+        if refusal is not None and number != CUT and number < REVISION and step.alone and not is_other:
             raise refusal
-        return kind, lost or refusal
+        if self._failures == TRIES and is_other and lost is None:
+            self._core.forget()                            # the server passes If-Range over, or gives one tag to two files
+            self._info, self._failures = None, 0
+            self._restart()
+        elif self._failures == TRIES:
+            failed = lost or refusal or EOFError('the last one ends before its first block')
+            raise Lost(f'no whole answer in {TRIES} exchanges: {failed}') from failed
+        return False
 
-    def _feed(self, piece: Piece) -> None:
-        if len(self._front) < FRONT:
-            self._front += bytes(piece[:FRONT])
-        self._core.feed(piece)
+    def _restart(self) -> None:
+        """Counts that the file was replaced while it was read. Raises `Lost` after too many, unless a report stands."""
+        self._restarts += 1
+        if self._restarts == TRIES and self._core.report()[0].kind == _core.NO_REPORT:
+            raise Lost(f'the file was replaced {TRIES} times while it was read')
 
-
-def _tells_another(refusal: NotUsed, request: bytes) -> bool:
-    """Whether the file is another one than what was read: where If-Range is passed over, it may end before the range."""
-    return refusal.reason in (REVISION, LENGTH) or refusal.status == UNSATISFIABLE and b'\r\nIf-Range: ' in request
-
-
-def _status_of(front: bytes) -> Optional[int]:
-    """The status of an answer that begins so."""
-    found = re.match(rb'HTTP/[0-9]\.[0-9] ([0-9]{3})', front)
-    return int(found[1]) if found else None
+    def _is_of_another(self, refusal: NotUsed) -> bool:
+        """Whether the file is another one than what was read: where If-Range is passed over, it may end before the range."""
+        return refusal.reason in (REVISION, LENGTH) or refusal.status == UNSATISFIABLE and self._core.check() is not None
 
 
 _files: weakref.WeakSet[File] = weakref.WeakSet()

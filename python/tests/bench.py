@@ -13,11 +13,11 @@ from unittest import mock
 
 import delgunsai
 import numpy
-from delgunsai import _sources
+from delgunsai import _core
 from files import PACKED, PLAIN, TRANSLATE, WIDE, base
 from floor import Compiled, Floor
 from servers import Cogserve, Nginx
-from support import EXAMPLE, FOLDER, RASTERIO, TLS, free_port
+from support import EXAMPLE, FOLDER, RASTERIO, TLS, free_port, in_python
 
 WIDTH, HEIGHT, SIDE = 7168, 6144, 256
 FORMS = {
@@ -34,6 +34,7 @@ SERIES = 3
 SHARES = 10
 THREADS = 8, 4
 WAYS = 2 + len(THREADS)
+END = b'\r\n\r\n'
 
 
 def written():
@@ -176,13 +177,14 @@ def planned(url, path, windows):
     """The plan of these windows for a floor: the requests that the package makes for them, of a file of which nothing is kept."""
     offsets = offsets_of(path)
     plan = [struct.pack(f'<5I{len(offsets)}I', os.path.getsize(path), WIDTH // SIDE, SIDE, SIDE, len(offsets), *offsets)]
-    exchange = _sources.Host.exchange
+    waiting = _core.Core.waiting
 
-    def noted(self, request, later, take):
-        plan.append(struct.pack('<2I', 1, len(request)) + request)
-        return exchange(self, request, later, take)
-    with mock.patch.object(_sources.Host, 'exchange', noted), mock.patch.object(_sources.Host, 'carry', return_value=None), \
-            delgunsai.open(url, blocks=4096) as file:
+    def noted(core):
+        text = waiting(core)
+        requests = bytes(text).split(END)[:-1]
+        plan.extend(struct.pack('<2I', 1, len(request + END)) + request + END for request in requests)
+        return text
+    with in_python(), mock.patch.object(_core.Core, 'waiting', noted), delgunsai.open(url, blocks=4096) as file:
         for x, y, width, height in windows:
             file.read(x=x, y=y, width=width, height=height)
             plan.append(struct.pack('<3I', 2, x, y))

@@ -154,8 +154,8 @@ class Silent(bytes):
 
 class Made(socketserver.ThreadingTCPServer):
     """Gives the answers that `answer` makes of a request and its number, from 1 on: bytes, or a list of them that are sent apart, with a
-    pause of so many seconds after each. It counts connections, requests and the bytes that were sent. With `Batching` the number is of the
-    requests that came at once, of which the first is answered alone."""
+    pause of so many seconds after each. It counts connections, requests, how many came at once, and the bytes that were sent. With `Batching`
+    the number is of the requests that came at once, of which the first is answered alone."""
     daemon_threads = True
     allow_reuse_address = True
     request_queue_size = 64
@@ -163,7 +163,7 @@ class Made(socketserver.ThreadingTCPServer):
     def __init__(self, answer, handler=None, pause=0.001):
         self.answer = answer
         self.pause = pause
-        self.connections = self.requests = self.sent = 0
+        self.connections = self.requests = self.at_once = self.sent = 0
         super().__init__(('127.0.0.1', 0), handler or Making)
         threading.Thread(target=self.serve_forever, kwargs={'poll_interval': 0.01}, daemon=True).start()
 
@@ -210,6 +210,7 @@ class Making(socketserver.BaseRequestHandler):
             while True:
                 text, end = Passing.head_of(self.request, text)
                 self.server.requests += 1
+                self.server.at_once = max(self.server.at_once, text.count(b'\r\n\r\n'))
                 answer = self.server.answer(text[:end], self.server.requests)
                 for piece in answer if isinstance(answer, list) else [answer]:
                     for at in range(0, len(piece), 65536):

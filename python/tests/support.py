@@ -6,6 +6,9 @@ import shutil
 import socket
 import tempfile
 import unittest
+from unittest import mock
+
+from delgunsai import _core
 
 HERE = os.path.dirname(os.path.abspath(__file__))
 TOP = os.path.dirname(os.path.dirname(HERE))
@@ -30,3 +33,23 @@ def needs(condition, words):
 def free_port():
     with socket.create_server(('127.0.0.1', 0)) as free:
         return free.getsockname()[1]
+
+
+def in_python():
+    """Has Python move all bytes, as over TLS, and see each exchange."""
+    def alone(call):
+        def carried(core, wire, *many):
+            wire.socket, wire.goes_on = -1, False
+            call(core, wire, *many)
+        return carried
+    return mock.patch.multiple(_core.Core, carry=alone(_core.Core.carry), read=alone(_core.Core.read))
+
+
+class InPython(unittest.TestCase):
+    """The same where Python moves all bytes."""
+
+    def setUp(self):
+        super().setUp()
+        patched = in_python()
+        patched.start()
+        self.addCleanup(patched.stop)

@@ -112,8 +112,9 @@ class Built(unittest.TestCase):
         wire = os.path.join(self.source, 'wire.c')
         with open(wire) as file:
             text = file.read()
-        for here, there in (('ABI = 1 ', 'ABI = 2 '), ('REQUESTS = 9', 'REQUESTS = 8'), ('delgunsai_abi', 'delgunsai_number'),
-                            ('delgunsai_wire_size', 'delgunsai_size')):
+        for here, there in (('ABI = 2 ', 'ABI = 3 '), ('size, begin, end;', 'size, begin, end, more;'), ('tag_length;', 'tag_length, more;'),
+                            ('delgunsai_abi', 'delgunsai_number'), ('delgunsai_wire_size', 'delgunsai_size'),
+                            ('delgunsai_many_size', 'delgunsai_count')):
             self.assertIn(here, text)
             with open(wire, 'w') as file:
                 file.write(text.replace(here, there))

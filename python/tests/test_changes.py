@@ -165,9 +165,9 @@ class Replaced(unittest.TestCase):
         disk, pieces = _disk.Disk(place), []
         for request in b'GET /file HTTP/1.1\r\nHost: disk\r\nRange: bytes=0-2999\r\n\r\n', b'HEAD /file HTTP/1.1\r\nHost: disk\r\n\r\n':
             with overwritten(place, b'new' * 1000), self.assertRaises(OSError):
-                disk.exchange(request, [], pieces.append)
+                disk.exchange(request, pieces.append)
             self.assertEqual(pieces, [])
-        disk.exchange(b'GET /file HTTP/1.1\r\nHost: disk\r\nRange: bytes=0-2999\r\n\r\n', [], pieces.append)
+        disk.exchange(b'GET /file HTTP/1.1\r\nHost: disk\r\nRange: bytes=0-2999\r\n\r\n', pieces.append)
         self.assertTrue(b''.join(pieces).endswith(b'\r\n\r\n' + b'new' * 1000))
 
 

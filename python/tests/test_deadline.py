@@ -53,14 +53,15 @@ class Deadlines(unittest.TestCase):
                         limit.deadline = 20                # but for the one call
                         self.assertTrue(right(file, 0, 0, 10))
                         if not kept:
-                            file._source.close()
+                            file._source.close(file._core)
                         is_slow.append(True)
                         limit.deadline = END
                         self.late(self.ways(file)[number])
                         limit.deadline = 20
-                        self.assertGreater(file._source.depth, 0)
                         is_slow.clear()
+                        server.at_once = 0
                         self.assertTrue(right(file, 700, 700, 10) and tall(file, 300) and file.same())
+                        self.assertGreater(server.at_once, 1, "the server isn't to blame")
 
     def test_dripped_heads(self):
         """Each byte comes in time, and the head never."""

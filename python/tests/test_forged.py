@@ -1,5 +1,4 @@
 """Answers that aren't used and announce less than comes. The rest of each is a whole answer to the next request, with other samples."""
-import http.client
 import itertools
 import re
 import ssl
@@ -10,10 +9,10 @@ from unittest import mock
 
 import delgunsai
 import numpy
+from delgunsai import _sources
 from files import plain
 from servers import Made, Making, Secure, served
-from support import TLS, needs
-from test_alike import InPython
+from support import TLS, InPython, needs
 
 TRUE, FALSE, TAG = 7, 238, b'"t"'
 TEXT, FORGED = (plain(numpy.full((1000, 1000), sample, 'uint8')) for sample in (TRUE, FALSE))
@@ -21,6 +20,7 @@ FIRST, REFUSED, NEXT = (10, 10, 10, 10), (700, 700, 10, 10), (300, 300, 10, 10)
 TALL = (600, 0, 100, 1000)
 WINDOWS = [(x, y, 10, 10) for x, y in itertools.product(range(10, 1000, 128), range(10, 1000, 128))]
 PAUSE = 0.05
+NO_HEAD = 2
 BLOCK = 16384
 
 
@@ -64,17 +64,19 @@ PIECES = {
 
 
 class Place(unittest.TestCase):
-    """By wire.c, but for the first exchange of a connection and answers of another form."""
+    """By wire.c, as far as it goes."""
     server = Made
-    connection = http.client.HTTPConnection
 
     def open(self, server):
         return delgunsai.open(server.url(), timeout=5)
 
+    @staticmethod
+    def read(file, window):
+        return file.read(**dict(zip(('x', 'y', 'width', 'height'), window)))
+
     def right(self, file, window):
-        x, y, width, height = window
-        samples = file.read(x=x, y=y, width=width, height=height)
-        return samples.shape == (height, width) and bool((samples == TRUE).all())
+        samples = self.read(file, window)
+        return samples.shape == window[:1:-1] and bool((samples == TRUE).all())
 
     def asked(self, *windows):
         """The requests of these windows, a list for each."""
@@ -99,15 +101,30 @@ class Refused(Place):
         return self.server(answer, pause=PAUSE)
 
     def test_refused(self):
-        """The call that is answered so raises the refusal, and the next one reads the true samples over another connection."""
+        """The call that is answered so raises the refusal, and the next one reads the true samples over another connection. What is no head
+        is no answer: its request is sent once more."""
         first, following = self.asked(FIRST, NEXT)
         for (name, (reason, change)), (way, cut) in itertools.product(REFUSALS.items(), PIECES.items()):
             with self.subTest(name, way=way), self.forging(len(first), change, following[0], cut) as server, self.open(server) as file:
                 self.assertTrue(self.right(file, FIRST))
-                with self.assertRaises(delgunsai.NotUsed) as seen:
-                    self.right(file, REFUSED)
-                self.assertEqual(seen.exception.reason, reason)
+                if reason == NO_HEAD:
+                    self.assertTrue(self.right(file, REFUSED))
+                else:
+                    with self.assertRaises(delgunsai.NotUsed) as seen:
+                        self.right(file, REFUSED)
+                    self.assertEqual(seen.exception.reason, reason)
                 self.assertTrue(self.right(file, NEXT))
+                self.assertEqual((file.tag, server.connections), ('"t"', 2))
+
+    def test_refused_at_first(self):
+        """On a new connection what is no head is a refusal, too."""
+        for (name, (reason, change)), (way, cut) in itertools.product(REFUSALS.items(), PIECES.items()):
+            (asked, *_), = self.asked(FIRST)
+            with self.subTest(name, way=way), self.forging(0, change, asked, cut) as server, self.open(server) as file:
+                with self.assertRaises(delgunsai.NotUsed) as seen:
+                    self.right(file, FIRST)
+                self.assertEqual(seen.exception.reason, reason)
+                self.assertTrue(self.right(file, FIRST))
                 self.assertEqual((file.tag, server.connections), ('"t"', 2))
 
     def test_asked_again(self):
@@ -128,25 +145,30 @@ class Refused(Place):
                 self.assertEqual(server.connections, 2)
 
     def test_lines_that_end_in_lf(self):
-        """Samples that end a head, and a forged answer after them, where the true head ends in LF alone."""
+        """A head whose lines end in LF alone ends where it ends, though samples after it look like the end of a head and an answer."""
         window = (700, 762, 4, 4)                           # whose samples lie in the second block of its tile
         first, (asked,) = self.asked(FIRST, window)
         begin, last = map(int, re.search(rb'bytes=([0-9]+)-([0-9]+)', asked).groups())
         second = asked.replace(b'bytes=%d-' % begin, b'bytes=%d-' % (begin + BLOCK))
         end = b'\r\nContent-Length: %d\r\n\r\n' % (BLOCK - 27)
         body = (end.ljust(BLOCK, b'\7') + served(second, FORGED, TAG))[:last + 1 - begin]
-        head = served(asked, TEXT, TAG).split(b'\r\n\r\n')[0].replace(b'\r\n', b'\n') + b'\n\n'
+        text = TEXT[:begin] + body + TEXT[begin + len(body):]
+        with self.server(lambda request, _: served(request, text, TAG)) as server, self.open(server) as file:
+            wanted = self.read(file, window)
+        self.assertFalse((wanted == FALSE).all())
 
         def answer(request, number):
+            head, body = served(request, text, TAG).split(b'\r\n\r\n', 1)
             if number != len(first) + 1:
-                return served(request, TEXT, TAG)
-            return [head + body[:BLOCK], body[BLOCK:]]
+                return served(request, text, TAG)
+            return [head.replace(b'\r\n', b'\n') + b'\n\n' + body[:BLOCK], body[BLOCK:]]
         with self.server(answer, pause=PAUSE) as server, self.open(server) as file:
-            self.assertTrue(self.right(file, FIRST) and self.right(file, window))
+            self.assertTrue(self.right(file, FIRST))
+            self.assertTrue(numpy.array_equal(self.read(file, window), wanted))
 
     def test_many(self):
         """By `read_windows` too, nothing is asked on a connection after an answer that isn't used."""
-        for name in 'a space before the colon of a transfer coding', 'a content coding', 'no such file':
+        for name in 'a part without a tag', 'a content coding', 'no such file':
             reason, change = REFUSALS[name]
             spent, late = [], []
 
@@ -182,13 +204,13 @@ class Greeted(Place):
 
     def greeting(self, *greetings):
         """A server that sends these to its first connections, and nothing to others. A client has connected once it is greeted."""
-        connect = self.connection.connect
+        connect = _sources.Host._connect
 
-        def connect_and_wait(connection):
-            connect(connection)
-            while connection.sock.getsockname()[1] not in server.greeted:
+        def connect_and_wait(host, core):
+            connect(host, core)
+            while host._stream.getsockname()[1] not in server.greeted:
                 time.sleep(0.001)
-        waiting = mock.patch.object(self.connection, 'connect', connect_and_wait)
+        waiting = mock.patch.object(_sources.Host, '_connect', connect_and_wait)
         waiting.start()
         self.addCleanup(waiting.stop)
         server = self.server(lambda request, _: served(request, TEXT, TAG), Greeting)
@@ -219,7 +241,6 @@ class Greeted(Place):
 
 class OverTls(Place):
     server = Secure
-    connection = http.client.HTTPSConnection
 
     def open(self, server):
         return delgunsai.open(server.url(), timeout=5, context=ssl.create_default_context(cafile=server.certificate))

@@ -15,10 +15,10 @@ from unittest import mock
 
 import delgunsai
 import numpy
-from delgunsai import _core, _file, _sources
+from delgunsai import _core, _file
 from files import noise, plain, ten_files, windows_of
 from servers import Cogserve, Cutting, Made, Nginx, served
-from support import EXAMPLE, FOLDER, RASTERIO, TLS, needs
+from support import EXAMPLE, FOLDER, RASTERIO, TLS, in_python, needs
 
 SAMPLES = [noise(1000), noise(1000)[::-1].copy()]
 TEXTS = [plain(samples) for samples in SAMPLES]
@@ -79,7 +79,7 @@ class Many(unittest.TestCase):
             self.right(file, connections=3)
             self.assertEqual(server.connections, 3)
         with Made(lambda request, _: served(request, TEXTS[0])) as server, delgunsai.open(server.url()) as file:
-            with mock.patch.object(_sources.Host, 'carry', return_value=None):
+            with in_python():
                 self.right(file)
 
     def test_forms_of_windows(self):
@@ -192,7 +192,7 @@ class Many(unittest.TestCase):
             with self.subTest(carries=carries, connections=connections, timeout=timeout, kept=kept), Made(answer) as server, \
                     delgunsai.open(server.url(), timeout=timeout) as file, contextlib.ExitStack() as patched:
                 if not carries:
-                    patched.enter_context(mock.patch.object(_sources.Host, 'carry', return_value=None))
+                    patched.enter_context(in_python())
                 if kept:
                     file.read_windows(WINDOWS[:connections], connections=connections)
                 waits.append(2.0)
@@ -221,16 +221,20 @@ class Many(unittest.TestCase):
             with self.subTest(fault=fault, carries=carries, windows=len(windows)), Made(answer) as server, \
                     delgunsai.open(server.url(), timeout=timeout) as file, contextlib.ExitStack() as patched:
                 if not carries:
-                    patched.enter_context(mock.patch.object(_sources.Host, 'carry', return_value=None))
+                    patched.enter_context(in_python())
                 file.read(x=0, y=0, width=1, height=1)
                 slow.append(True)
                 start = time.monotonic()
                 self.assertRaises(delgunsai.Outside, file.read_windows, [*windows, fault], connections=4)
                 self.assertLess(time.monotonic() - start, 2)
                 self.assertLessEqual(server.connections, 4)
-                self.assertEqual([one._source._losses for one in (file, *file._others)], [0] * 4, "what is given up is no loss of the server's")
                 slow.clear()
                 self.right(file)
+                for one in (file, *file._others):
+                    one._core.forget()
+                    server.at_once = 0
+                    one.read(x=0, y=0, width=200, height=1000)
+                    self.assertGreater(server.at_once, 1, "what is given up is no loss of the server's")
 
     def test_raised_again(self):
         """What a handler raises while the threads are ended leaves none of them."""
@@ -384,11 +388,11 @@ with delgunsai.open(sys.argv[1], timeout=5) as file:
             self.assertEqual(server.connections, before)
             sources = [file._source, *(other._source for other in file._others)]
             file.close()
-            self.assertEqual([source._connection.sock for source in sources], [None] * 4)
+            self.assertEqual([source._stream for source in sources], [None] * 4)
 
     def test_memory(self):
         with Made(lambda request, _: served(request, TEXTS[0])) as server, delgunsai.open(server.url()) as file:
             self.right(file)
-            with mock.patch.object(_core.Core, 'read', return_value=_core.Stop.MEMORY):
+            with mock.patch.object(_core._library, 'delgunsai_read', return_value=_core.MEMORY):
                 self.assertRaises(delgunsai.OutOfMemory, file.read_windows, WINDOWS)
             self.right(file)

@@ -2,6 +2,7 @@
 import os
 import re
 import signal
+import socketserver
 import subprocess
 import sys
 import threading
@@ -11,10 +12,10 @@ from unittest import mock
 
 import delgunsai
 import numpy
-from delgunsai import _core, _sources
+from delgunsai import _sources
 from files import noise, plain
 from servers import Batching, Ends, Made, Nginx, Resets, head, served
-from support import CORE, EXAMPLE, FOLDER, HEAP, TLS, TOP, needs
+from support import CORE, EXAMPLE, FOLDER, HEAP, TLS, TOP, in_python, needs
 
 SAMPLES = noise(1000)
 TEXT = plain(SAMPLES)
@@ -33,10 +34,6 @@ def right(file, x, y, side=200):
 def tall(file, x):
     """The same of a window over all rows of tiles, whose requests are sent at once."""
     return numpy.array_equal(file.read(x=x, y=0, width=200, height=1000), SAMPLES[:, x:x + 200])
-
-
-def of_bytes(first):
-    return b'GET /a HTTP/1.1\r\nHost: a\r\nRange: bytes=%d-%d\r\n\r\n' % (first, first + 9)
 
 
 def as_forked(do):
@@ -83,10 +80,10 @@ class Forked(unittest.TestCase):
             out.write(TEXT)
         with Nginx(FOLDER) as server, delgunsai.open(server.url('forked.tif'), context=server.context()) as file:
             self.assertTrue(right(file, 0, 0, 10))
-            kept = file._source._connection.sock
+            kept = file._source._stream
             self.ends_well(as_forked(lambda: right(file, 300, 300)))
             self.assertTrue(right(file, 700, 700))
-            self.assertIs(file._source._connection.sock, kept)
+            self.assertIs(file._source._stream, kept)
 
     def test_while_a_thread_reads(self):
         """A lock that a thread of the parent holds isn't held in the child."""
@@ -135,6 +132,22 @@ class Forked(unittest.TestCase):
         self.assertEqual(subprocess.run([sys.executable, '-c', program], env={**os.environ, 'PYTHONPATH': folder}).returncode, 0)
 
 
+class CuttingTheSecond(socketserver.BaseRequestHandler):
+    """Cuts the second of the answers to requests that come at once."""
+
+    def handle(self):
+        try:
+            while text := self.request.recv(65536):
+                requests = text.split(b'\r\n\r\n')[:-1]
+                self.server.at_once = max(self.server.at_once, len(requests))
+                answers = [self.server.answer(request + b'\r\n\r\n', 0) for request in requests]
+                self.request.sendall(answers[0] + b''.join(answers[1:2])[:-1])
+                if len(requests) > 1:
+                    return
+        except OSError:
+            pass
+
+
 class AtOnce(unittest.TestCase):
     """Requests that are sent at once, and servers that don't take them."""
 
@@ -164,46 +177,24 @@ class AtOnce(unittest.TestCase):
                 tall(file, 600)
             self.assertEqual((seen.exception.status, server.connections), (404, 2))
 
-    def test_others(self):
-        """Where a request comes in the place of one that was sent, the server left none unanswered."""
-        with Made(lambda request, _: served(request, TEXT)) as server:
-            host, answer = _sources.Host(_sources.Address(server.url()), 5, None), bytearray()
-            for first in range(0, 2000, 100):
-                answer.clear()
-                host.exchange(of_bytes(first), [of_bytes(first + 10)], answer.extend)
-                host.settle(True)
-                self.assertTrue(answer.endswith(b'\r\n\r\n' + TEXT[first:first + 10]))
-            self.assertGreater(host.depth, 0)
-            host.close()
-
     def test_cut_behind_the_first(self):
         """A server that cuts the second of the answers that it gives at once, each time, is asked one at a time in the end."""
-        seen = set()
-
-        def answer(request, _):
-            text, is_cut = served(request, TEXT), b'50-' in request and request not in seen
-            seen.add(request)
-            return Ends(text[:-1]) if is_cut else text
-        with Made(answer) as server:
-            host, lost = _sources.Host(_sources.Address(server.url()), 5, None), 0
-            for first in range(100, 2000, 100):
-                for at in first, first + 50, first + 50:
-                    text = bytearray()
-                    host.exchange(of_bytes(at), [of_bytes(first + 50)] if at == first else [], text.extend)
-                    host.settle(True)
-                    lost += not text.endswith(TEXT[at:at + 10])
-            host.close()
-        self.assertEqual((host.depth, lost), (0, 19))
+        with Made(lambda request, _: served(request, TEXT), CuttingTheSecond) as server, delgunsai.open(server.url()) as file:
+            for _ in range(3):
+                self.assertTrue(tall(file, 0))
+                file._core.forget()
+            self.assertGreater(server.at_once, 1)
+            server.at_once = 0
+            self.assertTrue(tall(file, 0))
+            self.assertEqual(server.at_once, 1)
 
     def test_sent_once(self):
-        """What was sent is neither told by the core nor sent again."""
-        with Made(lambda request, _: served(request, TEXT)) as server, delgunsai.open(server.url()) as file:
-            with mock.patch.object(_core.Core, 'later', autospec=True, side_effect=_core.Core.later) as later, \
-                    mock.patch.object(_sources.Host, 'carry', return_value=None):
-                self.assertTrue(tall(file, 0) and tall(file, 500))
-            known = [call.args[2] for call in later.call_args_list]
-            self.assertTrue(any(known))
-            self.assertEqual(server.requests, len(known))
+        """What was sent isn't sent again, and each request is asked for once."""
+        seen = []
+        with Made(lambda request, _: seen.append(request) or served(request, TEXT)) as server, delgunsai.open(server.url()) as file:
+            self.assertTrue(tall(file, 0) and tall(file, 500))
+            self.assertEqual((len(seen), server.connections), (len(set(seen)), 1))
+            self.assertGreater(server.at_once, 1)
 
     def test_after_same(self):
         """The connection that `same` ends isn't lost: the next requests are sent at once."""
@@ -214,7 +205,7 @@ class AtOnce(unittest.TestCase):
             return served(request, TEXT)
         with Made(answer, Batching) as server, delgunsai.open(server.url(), timeout=1) as file:
             self.assertTrue(right(file, 0, 0, 10) and file.same() and tall(file, 300))
-            self.assertGreater(counts[2], 1)
+            self.assertGreater(max(counts[2:]), 1)
 
 
 class Nothing(unittest.TestCase):
@@ -252,8 +243,8 @@ class Nothing(unittest.TestCase):
     def test_example_in_c(self):
         program, folder = os.path.join(FOLDER, 'example'), os.path.join(TOP, 'include')
         subprocess.run(['cc', '-I' + folder, '-o', program, os.path.join(folder, 'example.c'), CORE, HEAP], check=True)
-        for answer, status, words in ((self.cut, 1, b'example: an answer ends before its first block\n'),
-                                      (self.replaced, 1, b'example: the file is replaced again and again\n'),
+        for answer, status, words in ((self.cut, 1, b'example: no report\n'), (self.replaced, 1, b'example: no report\n'),
+                                      (lambda *_: head(b'404 Not Found', b'Content-Length: 0'), 1, b"example: an answer isn't used\n"),
                                       (lambda request, _: served(request, TEXT), 0, b'kind 1')):
             with Made(answer) as server:
                 line = [program, server.url().replace('http://', ''), '300', '200', '500', '400', '0']
@@ -320,9 +311,15 @@ class Unneeded(unittest.TestCase):
             def answer(request, _):
                 return served(re.sub(rb'-[0-9]+\r\n', b'-%d\r\n' % len(text), request), text).replace(b'Content-Range', name)
             with self.subTest(name), Made(answer) as server, delgunsai.open(server.url()) as file:
-                with mock.patch.object(_core.Core, 'feed', autospec=True, side_effect=_core.Core.feed) as feed:
+                read, lengths = _sources.Host._read, []
+
+                def noted(host, stream):
+                    lost = read(host, stream)
+                    lengths.append(host._wire.end)
+                    return lost
+                with in_python(), mock.patch.object(_sources.Host, '_read', noted):
                     file.read(**cut_out(4000, 2000, 300))
-                self.assertLess(sum(len(call.args[1]) for call in feed.call_args_list), len(text) // 10)
+                self.assertLess(sum(lengths), len(text) // 10)
 
     def test_no_length(self):
         """The connection goes on, so its end isn't waited for either."""
@@ -334,7 +331,7 @@ class Unneeded(unittest.TestCase):
 
     def test_length_of_many_digits(self):
         text = head(b'206 Partial Content', b'Content-Length: ' + b'9' * 5000)
-        self.refused([text[:4000], text[4000:]], 2, 206)
+        self.refused([text[:4000], text[4000:]], 2, None)        # of a head that isn't whole no status is read
         self.refused(head(b'206 Partial Content', b'Content-Length: ' + b'9' * 2000), 4, 206)
 
     def test_ranges_are_passed_over(self):

@@ -12,10 +12,9 @@ import unittest
 from unittest import mock
 
 import delgunsai
-from delgunsai import _sources
 from servers import Made, served
 from support import EXAMPLE
-from test_network import TEXT, as_forked, of_bytes, right, tall
+from test_network import TEXT, as_forked, right, tall
 
 
 class Interrupted(unittest.TestCase):
@@ -39,18 +38,19 @@ class Interrupted(unittest.TestCase):
                 self.assertEqual(os.waitpid(as_forked(read), 0)[1], 0)
 
     def test_interrupted(self):
-        """Where the program gives an answer up, the server left no request unanswered."""
-        def interrupted(_):
-            raise KeyboardInterrupt
-        with Made(lambda request, _: served(request, TEXT)) as server:
-            host, answer = _sources.Host(_sources.Address(server.url()), 5, None), bytearray()
-            for first in range(0, 2000, 100):
-                with self.assertRaises(KeyboardInterrupt):
-                    host.exchange(of_bytes(first), [of_bytes(first + 10)], interrupted)
-            self.assertGreater(host.depth, 0)
-            host.exchange(of_bytes(0), [], answer.extend)
-            self.assertTrue(answer.endswith(b'\r\n\r\n' + TEXT[:10]))
-            host.close()
+        """Where the program gives an answer up, the server left no request unanswered: others are sent at once still."""
+        with Made(lambda request, number: b'' if silent else served(request, TEXT)) as server, delgunsai.open(server.url(), timeout=9) as file:
+            silent = []
+            self.raises(KeyboardInterrupt)
+            for _ in range(5):
+                self.assertTrue(right(file, 0, 0, 10))
+                silent.append(True)
+                signal.setitimer(signal.ITIMER_REAL, 0.05)
+                self.assertRaises(KeyboardInterrupt, tall, file, 300)
+                silent.clear()
+            server.at_once = 0
+            self.assertTrue(tall(file, 300))
+            self.assertGreater(server.at_once, 1)
 
     def ticks(self, seconds):
         """Has a signal handler that does nothing run so often, until the test ends."""
@@ -98,7 +98,7 @@ class Interrupted(unittest.TestCase):
 
             def answer(request, _):
                 left[0] -= 1
-                return served(request, TEXT)[:None if left[0] >= 0 else cut]
+                return served(request, TEXT)[:None if left[0] >= 0 else cut if left[0] == -1 else 0]
             with self.subTest(place, kind=kind, cut=cut), Made(answer) as server, delgunsai.open(server.url(), timeout=5) as file:
                 self.assertTrue(place == 'new' or right(file, 0, 0, 10))
                 left[0] = int(place == 'ahead')
@@ -107,9 +107,9 @@ class Interrupted(unittest.TestCase):
                     signal.setitimer(signal.ITIMER_REAL, 0.1)
                     tall(file, 500)
                 self.assertLessEqual(server.connections, 1)
-                left[0] = 1000
+                left[0], server.at_once = 1000, 0
                 self.assertTrue(tall(file, 500) and file.same() and tall(file, 200))
-                self.assertGreater(file._source.depth, 0)
+                self.assertGreater(server.at_once, 1)
 
     def test_deadline_of_same(self):
         waits = [0.5]

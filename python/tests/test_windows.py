@@ -121,7 +121,9 @@ class Equal(unittest.TestCase):
                     self.assertTrue(numpy.array_equal(got, as_rasterio(path, level, (x, y, w, h))))
                 self.assertIn(passing.at_once, range(2, 10))
                 self.assertEqual(passing.connections == 1, not alone)
-                self.assertEqual(file._source.depth == 0, alone)
+                passing.at_once = 0
+                file.read(x=600, y=0, width=256, height=1100)
+                self.assertEqual(passing.at_once == 1, alone)
                 passing.shutdown()
 
     @needs(RASTERIO, 'rasterio with GDAL')
