@@ -156,7 +156,8 @@ impl Dialogue {
     /// Fails without memory. The exchange that was under way is over then, and so is its connection. What of its answer was taken stays.
     pub fn go_on(&mut self, client: &mut Client, bytes: &[u8]) -> Result<Progress, Memory>
         ensures few { IfOk result (λ progress. progress.count ≤ length bytes.now) }
-        ensures goes { IfOk result (λ progress. Goes (rounds_of progress.step) (take progress.count bytes.now) self.old client.old self.new client.new) }
+        ensures goes { IfOk result (λ progress.
+            Goes (rounds_of progress.step) (take progress.count bytes.now) self.old client.old self.new client.new) }
         ensures says { IfOk result (λ progress. Says progress.step self.new client.new) }
         ensures err { OnErr result (Goes Fails [] self.old client.old self.new client.new) }
     {
@@ -192,8 +193,8 @@ impl Dialogue {
         self.take(client, bytes)
     }
 
-    /// Notes that the connection is gone, and how. A request is sent once more where its connection was kept and nothing came of the answer,
-    /// but not where it is late and was the first one that was out. Else the exchange is over.
+    /// Notes that the connection is gone, and how. A request is sent once more where its connection was kept and nothing came of the
+    /// answer, but not where it is late and was the first one that was out. Else the exchange is over.
     ///
     /// Fails without memory, as `go_on` does.
     pub fn gone(&mut self, client: &mut Client, how: Loss) -> Result<Step, Memory>

@@ -7,9 +7,9 @@ use http_range::{HeadReading, Tag, read_head};
 /// How many bytes of a file are read where it isn't the one that was asked for.
 const FRONT: u64 = 65_536;
 
-/// Returns how many bytes of the body are read, for a client that asks for `asked` of the revision with the ETag `tag`: those up to the last
-/// byte of `asked`, but at least a front. Of another revision a front is read. Nothing is read of a body whose head announces no piece of
-/// a file.
+/// Returns how many bytes of the body are read, for a client that asks for `asked` of the revision with the ETag `tag`. These are the bytes
+/// up to the last one of `asked`, but at least a front. Of another revision a front is read. Nothing is read of a body whose head announces
+/// no piece of a file.
 pub fn useful_length(head: &[u8], asked: Option<Span>, tag: Option<&Tag>) -> u64 {
     let HeadReading::Head(head) = read_head(head) else {
         return 0;

@@ -34,7 +34,8 @@ impl Dialogue {
         requires busy { self.old.asked ≡ true }
         requires opens { self.old.status.is_open ≡ true }
         ensures few { IfOk result (λ progress. progress.count ≤ length bytes.now) }
-        ensures goes { IfOk result (λ progress. Goes (rounds_of progress.step) (take progress.count bytes.now) self.old client.old self.new client.new) }
+        ensures goes { IfOk result (λ progress.
+            Goes (rounds_of progress.step) (take progress.count bytes.now) self.old client.old self.new client.new) }
         ensures says { IfOk result (λ progress. Says progress.step self.new client.new) }
         ensures err { OnErr result (Goes Fails [] self.old client.old self.new client.new) }
     {
@@ -58,7 +59,8 @@ impl Dialogue {
         requires more { ¬ (self.old.status.left ≡ Some 0) }
         requires some { 0 < length bytes.now }
         ensures few { IfOk result (λ progress. progress.count ≤ length bytes.now) }
-        ensures goes { IfOk result (λ progress. Goes (rounds_of progress.step) (take progress.count bytes.now) self.old client.old self.new client.new) }
+        ensures goes { IfOk result (λ progress.
+            Goes (rounds_of progress.step) (take progress.count bytes.now) self.old client.old self.new client.new) }
         ensures says { IfOk result (λ progress. Says progress.step self.new client.new) }
         ensures err { OnErr result (Goes Fails [] self.old client.old self.new client.new) }
     {
@@ -168,7 +170,8 @@ impl Dialogue {
 
     /// Ends the client's answer.
     fn conclude(&mut self, client: &mut Client) -> Result<Exchanged, Memory>
-        ensures ok { IfOk result (λ exchanged. (self.new ≡ record self.old { asked = false }) × Concludes [] exchanged.delivered client.old client.new) }
+        ensures ok { IfOk result (λ exchanged.
+            (self.new ≡ record self.old { asked = false }) × Concludes [] exchanged.delivered client.old client.new) }
         ensures err { OnErr result ((self.new ≡ given_up self.old) × Halts [] client.old client.new) }
     {
         let Ok(delivered) = client.end() else {
