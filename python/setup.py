@@ -49,6 +49,14 @@ def heap() -> pathlib.Path:
     return path
 
 
+def header() -> pathlib.Path:
+    """The folder of the library's header: this one, in a copy that has it, or the repository's."""
+    for folder in (HERE, HERE.parent / 'include'):
+        if (folder / 'delgunsai.h').is_file():
+            return folder
+    raise SystemExit(f'missing: delgunsai.h: copy it from include/ of Delgunsai to {HERE}')
+
+
 def compiler() -> List[str]:
     """The words that call the C compiler: CC, or cc where that has none."""
     words = os.environ.get('CC', '')
@@ -67,7 +75,7 @@ def calls() -> List[str]:
 def link(words: List[str], library: pathlib.Path) -> None:
     """Links the shared library. An archive that lacks a call is told in one line: without that it would be built, and fail at import."""
     archives = ['-Wl,--whole-archive', str(core()), '-Wl,--no-whole-archive', str(heap()), f'-Wl,--exclude-libs,{heap().name}']
-    done = subprocess.run([*words, '-o', str(library), str(HERE / 'wire.c'), *archives], stderr=subprocess.PIPE, text=True, errors='replace')
+    done = subprocess.run([*words, f'-I{header()}', '-o', str(library), str(HERE / 'wire.c'), *archives], stderr=subprocess.PIPE, text=True, errors='replace')
     if done.returncode != 0:
         lacks = sorted(set(re.findall(r"(?:undefined (?:reference to|symbol:)|required symbol) [`']?(\w+)", done.stderr)))
         if lacks:

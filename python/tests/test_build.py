@@ -19,6 +19,7 @@ class Built(unittest.TestCase):
         self.source = os.path.join(self.place, 'source')
         shutil.copytree(os.path.join(TOP, 'python'), self.source,
                         ignore=shutil.ignore_patterns('build', '*.egg-info', '__pycache__', '*.so'))
+        shutil.copy(os.path.join(TOP, 'include/delgunsai.h'), self.source)
 
     def pip(self, *words, **variables):
         variables = {**os.environ, 'DELGUNSAI_CORE': CORE, 'PIP_ROOT_USER_ACTION': 'ignore', **variables}

@@ -18,6 +18,7 @@ def install(place):
     """Installs the package into this folder from a copy of its own, and puts it and the tests' modules first among the paths."""
     source = os.path.join(place, 'source')
     shutil.copytree(os.path.join(TOP, 'python'), source, ignore=shutil.ignore_patterns('build', '*.egg-info', '__pycache__', '*.so'))
+    shutil.copy(os.path.join(TOP, 'include/delgunsai.h'), source)
     done = subprocess.run([sys.executable, '-m', 'pip', 'install', '-q', '--no-build-isolation', '--no-deps', '--no-index', '--target',
                            os.path.join(place, 'package'), source], capture_output=True, text=True,
                           env={**os.environ, 'DELGUNSAI_CORE': CORE, 'PIP_ROOT_USER_ACTION': 'ignore'})

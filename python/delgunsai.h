@@ -1,1 +1,0 @@
-../include/delgunsai.h
