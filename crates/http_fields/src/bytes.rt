@@ -3,7 +3,7 @@ ghost use Rattle.std.specs.Prelude.{◌≡◌, ◌≤◌, ◌==◌, length, take
 ghost use Rattle.std.specs.List.{before_first, after_first, position, position_or_len};
 ghost use Rattle.std.specs.Str.{bytes_eq, str_to_ascii_lowercase};
 
-/// The bytes from a place inside them, or from their end, on.
+/// Returns the bytes from place `at` on. `at` is at most the length.
 pub fn after(bytes: &[u8], at: usize) -> &[u8]
     requires { at ≤ length bytes.now }
     ensures { result.now ≡ drop at bytes.now }
@@ -11,14 +11,14 @@ pub fn after(bytes: &[u8], at: usize) -> &[u8]
     &bytes[at..]
 }
 
-/// The bytes from a place on, or none past the end.
+/// Returns the bytes from place `at` on, or none where `at` is past the end.
 pub fn past(bytes: &[u8], at: usize) -> &[u8]
     ensures { result.now ≡ drop at bytes.now }
 {
     if at <= bytes.len() { &bytes[at..] } else { &[] }
 }
 
-/// The first `n` bytes, or all where there are fewer.
+/// Returns the first `n` bytes, or all where there are fewer.
 pub fn up_to(bytes: &[u8], n: u64) -> &[u8]
     ensures { result.now ≡ take n bytes.now }
 {
@@ -35,7 +35,7 @@ fn position_of(text: &[u8], byte: u8) -> Option<usize>
     text.iter().position(|b| *b == byte)
 }
 
-/// Where the first such byte stands, or the length.
+/// Returns the place of the first byte `byte`, or the length where there is none.
 pub fn place_of(text: &[u8], byte: u8) -> usize
     ensures { result ≡ position_or_len (λ b. b == byte) text.now }
 {
@@ -45,7 +45,7 @@ pub fn place_of(text: &[u8], byte: u8) -> usize
     }
 }
 
-/// What stands before and after the first such byte.
+/// Returns what stands before and after the first byte `byte`. Where there is none, all stands before it.
 pub fn split_first(text: &[u8], byte: u8) -> (&[u8], &[u8])
     ensures front { result.0.now ≡ before_first (λ b. b == byte) text.now }
     ensures back { result.1.now ≡ after_first (λ b. b == byte) text.now }
@@ -59,7 +59,7 @@ pub fn split_first(text: &[u8], byte: u8) -> (&[u8], &[u8])
     }
 }
 
-/// Whether two texts are equal. Case is ignored.
+/// Returns whether two texts are equal, apart from their case.
 pub fn is_same_word(text: &[u8], word: &[u8]) -> bool
     ensures { result ≡ bytes_eq (str_to_ascii_lowercase text.now) (str_to_ascii_lowercase word.now) }
 {

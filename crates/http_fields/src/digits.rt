@@ -2,7 +2,8 @@
 ghost use Rattle.std.specs.Prelude.{◌≡◌};
 ghost use Rattle.http_fields.specs.Digits.{number_64};
 
-/// The number that the digits write, where they are one digit or more and it has 64 bits.
+/// Returns the number that the digits write. Returns `None` where there is no digit, another byte, or a number past 64
+/// bits.
 pub fn number_64(text: &[u8]) -> Option<u64>
     ensures { result ≡ number_64 text.now }
 {

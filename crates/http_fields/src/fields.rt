@@ -1,4 +1,4 @@
-//! The field lines of a head, by name (RFC 9110, sections 5.1 and 5.6.1: names ignore case).
+//! The field lines of a head, by name. The case of names is ignored (RFC 9110, sections 5.1 and 5.6.1).
 ghost use Rattle.std.specs.Prelude.{◌≡◌, ◌≤◌, slice_get, option_copied, length, take};
 ghost use Rattle.std.specs.List.{list_any};
 ghost use Rattle.http_fields.specs.Fields.{values_of, only, is_there, fields_at, AreWithin, is_named};
@@ -14,7 +14,8 @@ use crate::tag::Tag;
 use httparse::spans::HeaderSpan;
 use std::marker::Model;
 
-/// The field lines of a head. They lend names and values from its bytes, and are seen as the list of them.
+/// The field lines of a head. Names and values are borrowed from its bytes, and contracts see it as the list of field
+/// lines.
 #[derive(Drop)]
 pub struct HeaderFields<'b> {
     bytes: &'b [u8],
@@ -35,7 +36,7 @@ impl<'b> Model for HeaderFields<'b> {
 }
 
 impl<'b> HeaderFields<'b> {
-    /// The first `count` field lines, where the spans lie in the bytes.
+    /// Returns the first `count` field lines. The spans lie in the bytes.
     pub fn new(bytes: &'b [u8], spans: [HeaderSpan; FIELD_LIMIT], count: usize) -> HeaderFields<'b>
         requires room { count ≤ FIELD_LIMIT }
         requires within { AreWithin bytes.now (take count spans) }
@@ -48,35 +49,35 @@ impl<'b> HeaderFields<'b> {
         }
     }
 
-    /// The value of the `i`-th field under a name, counted from 0.
+    /// Returns the value of the `i`-th field `name`, counted from 0, or `None`.
     pub fn nth(&self, name: &[u8], i: usize) -> Option<&'b [u8]>
         ensures { option_copied result ≡ slice_get (values_of name.now self.now) i }
     {
         nth_value(self.bytes, &self.spans[..self.count], name, i)
     }
 
-    /// The value of the only field under a name.
+    /// Returns the value of the only field `name`. Returns `None` where there is none, or more than one.
     pub fn only(&self, name: &[u8]) -> Option<&'b [u8]>
         ensures { option_copied result ≡ only (values_of name.now self.now) }
     {
         only_value(self.bytes, &self.spans[..self.count], name)
     }
 
-    /// Whether a field has this name.
+    /// Returns whether there is a field `name`.
     pub fn has(&self, name: &[u8]) -> bool
         ensures { result ≡ is_there (values_of name.now self.now) }
     {
         self.nth(name, 0).is_some()
     }
 
-    /// Whether a field under a name has this word among its members.
+    /// Returns whether a field `name` has `word` among its members. The case of members is ignored.
     pub fn has_member(&self, name: &[u8], word: &[u8]) -> bool
         ensures { result ≡ list_any (has_member word.now) (values_of name.now self.now) }
     {
         any_has_member(self.bytes, &self.spans[..self.count], name, word)
     }
 
-    /// Whether a field under a name matches the tag, as `any_match` says of its value.
+    /// Returns whether a field `name` matches the ETag, as `any_match` says of its value.
     pub fn one_matches(&self, name: &[u8], tag: &Tag, strong: bool) -> bool
         ensures { result ≡ one_matches (values_of name.now self.now) tag.now strong }
     {

@@ -1,7 +1,7 @@
-//! What heads of HTTP/1.1 are made of (RFC 9110, RFC 9112): entity tags, numbers, names, lists and field lines. No request
-//! and no answer is read here, or written.
+//! Reads and writes the parts of heads of HTTP/1.1 (RFC 9110, RFC 9112): ETags, numbers, names, lists and field lines.
+//! It reads and writes no whole request and no whole answer.
 //!
-//! Only `line` takes memory.
+//! Only `line` allocates memory.
 #![tactic(auto)]
 
 pub mod bytes;

@@ -1,4 +1,5 @@
-//! The limits of names, tags, heads and connections. They are this project's own: RFC 9110 and RFC 9112 leave them open.
+//! The limits of names, ETags, heads and connections. They are this project's own: RFC 9110 and RFC 9112 leave them
+//! open.
 
 /// The most bytes of a file's name.
 pub const NAME_LIMIT: usize = 200;
@@ -9,7 +10,7 @@ pub const HOST_LIMIT: usize = 64;
 /// The most field lines of a head.
 pub const FIELD_LIMIT: usize = 32;
 
-/// The most bytes of a tag.
+/// The most bytes of an ETag.
 pub const TAG_LIMIT: usize = 64;
 
 /// The most bytes of the head of an answer.

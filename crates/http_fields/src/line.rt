@@ -1,4 +1,5 @@
-//! Lines of a head (RFC 9112, sections 2.1 and 5). Want of memory, their only error, may leave a part of a line behind the text.
+//! Lines of a head (RFC 9112, sections 2.1 and 5). Each function fails where an allocation fails, and may then leave a
+//! part of a line at the end of the text.
 ghost use Rattle.std.specs.Prelude.{◌≡◌, ◌++◌, OnOk, decimal};
 ghost use Rattle.std.specs.List.{flat_map};
 ghost use Rattle.http_fields.specs.Text.{line, closing};
@@ -36,7 +37,7 @@ pub fn push_number_line(out: &mut Vec<u8>, name: &[u8], n: u128) -> Result<(), A
     Ok(())
 }
 
-/// Adds the field that ends the connection, where it is to end.
+/// Adds the field `Connection: close`, where `close` is true.
 pub fn push_closing(out: &mut Vec<u8>, close: bool) -> Result<(), AllocError>
     ensures { OnOk result (out.new.items ≡ out.old.items ++ flat_map line (closing close)) }
 {

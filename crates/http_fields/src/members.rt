@@ -8,7 +8,7 @@ ghost use Rattle.http_fields.specs.MemberWalk.{first_part, members_left};
 use crate::bytes::after;
 use httparse::is_space_or_tab;
 
-/// The members of a list, empty ones too, without spaces and tabs round them.
+/// The members of a list without spaces and tabs around them. Empty members count, too.
 #[derive(Drop)]
 pub(crate) struct Members<'b> {
     rest: Option<&'b [u8]>,
@@ -16,7 +16,7 @@ pub(crate) struct Members<'b> {
 }
 
 impl<'b> Members<'b> {
-    /// With `quotes` a comma between quotes belongs to its member.
+    /// Returns the members of the list in `value`. With `quotes`, a comma between quotes belongs to its member.
     pub(crate) fn new(value: &'b [u8], quotes: bool) -> Members<'b>
         ensures { members_left result ≡ members quotes value.entry.now }
     {
@@ -47,7 +47,7 @@ impl<'b> Iterator for Members<'b> {
     }
 }
 
-/// Where the first part ends: at a comma, or with the list.
+/// Returns where the first part ends: at a comma, or with the list.
 fn part_end(list: &[u8], quotes: bool) -> usize
     ensures { result ≡ length (first_part quotes list.now) }
 {
@@ -85,7 +85,7 @@ fn trim_end(mut text: &[u8]) -> &[u8]
     text
 }
 
-/// The text without spaces and tabs at its ends.
+/// Returns the text without spaces and tabs at its ends.
 #[tactic(auto, unfolding(httparse::specs::Grammar::trim_ows))]
 pub(crate) fn trim(text: &[u8]) -> &[u8]
     ensures { result.now ≡ trim_ows text.now }
@@ -93,7 +93,7 @@ pub(crate) fn trim(text: &[u8]) -> &[u8]
     trim_end(trim_start(text))
 }
 
-/// Whether a member of the list is this word. Case is ignored.
+/// Returns whether a member of the list is `word`. Case is ignored.
 pub(crate) fn has_member(value: &[u8], word: &[u8]) -> bool
     ensures { result ≡ has_member word.now value.now }
 {

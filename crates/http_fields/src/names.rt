@@ -11,8 +11,9 @@ fn is_name_byte(b: u8) -> bool
     b.is_ascii_alphanumeric() || b == b'.' || b == b'_' || b == b'-' || b == b'/'
 }
 
-/// Whether a file may have this name: 1 to 200 letters, digits and `._-/`. Each of these bytes stands for itself in the path of a target
-/// (RFC 9110, section 4.2.1; RFC 3986, section 3.3), but not each whole name: the segments `.` and `..` are taken too.
+/// Returns whether a file may have this name: 1 to 200 letters, digits and `._-/`. Each of these bytes stands for
+/// itself in the path of a target (RFC 9110, section 4.2.1; RFC 3986, section 3.3). Not each whole name does, since the
+/// segments `.` and `..` are taken too.
 pub fn is_name(name: &[u8]) -> bool
     ensures { result ≡ is_name name.now }
 {
@@ -31,7 +32,8 @@ fn is_host_byte(b: u8) -> bool
     b.is_ascii_alphanumeric() || b == b'.' || b == b'-' || b == b':'
 }
 
-/// Whether a host may have this name: 1 to 64 letters, digits and `.-:`, so that a port may follow (RFC 9110, section 7.2).
+/// Returns whether a host may have this name: 1 to 64 letters, digits and `.-:`. So a port may follow (RFC 9110,
+/// section 7.2).
 pub fn is_host(host: &[u8]) -> bool
     ensures { result ≡ is_host host.now }
 {

@@ -24,7 +24,7 @@ fn digit_of(b: u8) -> u64
     (b - b'0') as u64
 }
 
-/// The digit at place `i` where the text is padded with zeros in front to `n` places.
+/// Returns the digit at place `i` of the text, padded in front with zeros to `n` places.
 fn padded_digit(text: &[u8], n: usize, i: usize) -> u64
     requires digits { IsTrue (all_ascii_digits text.now) }
     requires room { length text.now ≤ n }
@@ -40,7 +40,7 @@ fn padded_digit(text: &[u8], n: usize, i: usize) -> u64
     digit_of(text[i - skip])
 }
 
-/// The number that the digits write, or the greatest of 64 bits where it is greater.
+/// Returns the number that the digits write, or the greatest of 64 bits where it is greater.
 pub fn capped(text: &[u8]) -> u64
     requires { IsTrue (all_ascii_digits text.now) }
     ensures { result ≡ capped (digits_value 10 text.now) }
@@ -57,7 +57,7 @@ pub fn capped(text: &[u8]) -> u64
     n
 }
 
-/// Whether the first number isn't above the second, however many digits they have.
+/// Returns whether the first number isn't above the second, however many digits they have.
 pub fn in_order(a: &[u8], b: &[u8]) -> bool
     requires first { IsTrue (all_ascii_digits a.now) }
     requires second { IsTrue (all_ascii_digits b.now) }
@@ -77,7 +77,8 @@ pub fn in_order(a: &[u8], b: &[u8]) -> bool
     !above
 }
 
-/// The number that the text writes, with those past 64 bits lowered to the greatest.
+/// Returns the number that the text writes, or `None` where it writes none. A number past 64 bits is lowered to the
+/// greatest.
 pub fn number(text: &[u8]) -> Option<u64>
     ensures { result ≡ option_map capped (number text.now) }
 {
@@ -90,7 +91,7 @@ pub fn number(text: &[u8]) -> Option<u64>
     Some(capped(text))
 }
 
-/// Whether the text writes a number.
+/// Returns whether the text writes a number: it has a digit, and nothing but digits.
 pub fn is_number(text: &[u8]) -> bool
     ensures test { result ≡ is_some (number text.now) }
     ensures digits { IsTrue result → IsTrue (all_ascii_digits text.now) }

@@ -1,4 +1,4 @@
-//! Entity tags (RFC 9110, section 8.8.3).
+//! ETags (RFC 9110, section 8.8.3).
 ghost use Rattle.std.specs.Prelude.{◌≡◌, ◌==◌, ℕ, List, IsTrue, IfSome, IfNone, false};
 ghost use Rattle.std.specs.List.{list_all};
 ghost use Rattle.http_fields.specs.Tag.{is_tag_byte, is_opaque_tag, is_weak_tag, is_kept_tag};
@@ -8,7 +8,7 @@ use crate::limits::TAG_LIMIT;
 use arrayvec::ArrayVec;
 use std::marker::Model;
 
-/// A strong entity tag of at most 64 bytes, its quotes among them. It is seen as the list of its bytes.
+/// A strong ETag of at most 64 bytes, with its quotes. Contracts see it as the list of its bytes.
 #[derive(Debug, Drop)]
 pub struct Tag {
     text: ArrayVec<u8, TAG_LIMIT>,
@@ -36,7 +36,7 @@ fn are_tag_bytes(text: &[u8]) -> bool
     text.iter().all(|b| is_tag_byte(*b))
 }
 
-/// Whether the text is an entity tag without `W/`.
+/// Returns whether the text is an entity tag without `W/`.
 pub fn is_opaque_tag(text: &[u8]) -> bool
     ensures { result ≡ is_opaque_tag text.now }
 {
@@ -53,14 +53,14 @@ pub fn is_opaque_tag(text: &[u8]) -> bool
     are_tag_bytes(&text[1..n - 1])
 }
 
-/// Whether the text is an entity tag with `W/`.
+/// Returns whether the text is an entity tag with `W/`.
 pub fn is_weak_tag(text: &[u8]) -> bool
     ensures { result ≡ is_weak_tag text.now }
 {
     text.starts_with(b"W/") && is_opaque_tag(past(text, 2))
 }
 
-// Strong comparison: neither tag is weak, and the texts are equal byte for byte.
+// Strong comparison: neither ETag is weak, and the texts are equal byte for byte.
 impl PartialEq for Tag {
     ghost use Rattle.std.specs.Str.{bytes_eq};
     ghost use Rattle.std.proofs.Common.{rules};
@@ -83,7 +83,8 @@ impl Eq for Tag {
 }
 
 impl Tag {
-    /// The tag with this text: None where it is weak, no entity tag, or longer than 64 bytes (RFC 9110, section 8.8.3).
+    /// Makes the ETag with this text. Returns `None` where the text is a weak entity tag, or none, or longer than 64
+    /// bytes (RFC 9110, section 8.8.3).
     ///
     /// ```
     /// let tag = Tag::new(b"\"1-1\"");
@@ -103,7 +104,7 @@ impl Tag {
         }
     }
 
-    /// The text with its quotes.
+    /// Returns the text with its quotes.
     pub fn as_bytes(&self) -> &[u8]
         ensures text { result.now ≡ self.now }
         ensures kept { IsTrue (is_kept_tag result.now) }
@@ -111,7 +112,7 @@ impl Tag {
         self.text.as_slice()
     }
 
-    /// An equal tag. It takes no memory.
+    /// Returns an equal ETag. It allocates nothing.
     pub fn copy(&self) -> Tag
         ensures same { result ≡ self.now }
         ensures kept { IsTrue (is_kept_tag result) }

@@ -9,9 +9,9 @@ use Rattle.http_range.specs.Reply.{IsSent, head_text}
 use Rattle.http_range.specs.Piece.{SeenPiece}
 use Rattle.http_range.specs.Reading.{reply_seen, front_seen, tag_seen, front_tag, ReadsAnswer, ReadsCheck}
 use Rattle.http_range.specs.Book.{Publication, Book, In, Includes, Covers, Catalogue, IsCatalogue, published}
-use Rattle.http_range.specs.Response.{Response, text_of, IsAnswer}
+use Rattle.http_range.specs.Response.{Response, answer_by, text_of, IsAnswer}
 use Rattle.http_range.specs.Honest.{IsFront, IsHonest, IsPieceOf, IsPieceOfBook}
-use Rattle.http_range.specs.Laws.{FrontsAreRead, ChecksAreRead, HonestyIsKept}
+use Rattle.http_range.specs.Laws.{AnswersAreSent, FrontsAreRead, ChecksAreRead, HonestyIsKept}
 use Rattle.http_fields.specs.Laws.{PartsAreRead}
 use Rattle.http_range.proofs.BookLemmas.{published_lawful, tags_tell_one}
 use Rattle.http_range.proofs.RoundTrip.{front_head, front_read, front_checked}
@@ -86,6 +86,9 @@ book_kind name book catalogue s k named (inr file) =
 sent_kind : (catalogue : Catalogue) (s : Response) → Kind catalogue s → IsSent s.reply
 sent_kind catalogue s (inl is) = is.sent
 sent_kind catalogue s (inr file) = file.1.sent
+
+pub answers_are_sent : AnswersAreSent
+answers_are_sent catalogue seen lawful = sent_kind catalogue (answer_by catalogue seen) (kind_of catalogue lawful seen)
 
 nameless_kind : (catalogue : Catalogue) (s : Response) (k : ℕ) → s.name ≡ None → Kind catalogue s
     → IsErr (front_seen s.reply s.close s.body k)

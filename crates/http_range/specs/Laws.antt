@@ -3,7 +3,7 @@ use Rattle.std.specs.Prelude.{◌≡◌, ◌≢◌, ◌<◌, ◌≤◌, ◌^◌,
 use Rattle.httparse.specs.Grammar.{RequestHead, IsRequestHead, print_request}
 use Rattle.http_range.specs.Ask.{CanAsk, request_by, CanCheck, check_text}
 use Rattle.http_range.specs.Book.{Publication, IsPublication, Book, In, HasDistinctTags, Includes, Covers, Catalogue, IsCatalogue, published, publish, publication_tag}
-use Rattle.http_range.specs.Response.{Response, ending, text_of, IsAnswer, response_to_client, response_to_check}
+use Rattle.http_range.specs.Response.{Response, answer_by, ending, text_of, IsAnswer, response_to_client, response_to_check}
 use Rattle.http_fields.specs.declared.limits.TheConstants.{HEAD_LIMIT, MESSAGE_LIMIT}
 use Rattle.http_range.specs.Seen.{SeenRequest, HasRequest}
 use Rattle.http_range.specs.Scan.{is_message}
@@ -36,6 +36,11 @@ PublicationTagsAreKept = (e n : ℕ) → e < 2 ^ 64 → n < 2 ^ 64 → IsTrue (i
 -- where tags are distinct, a tag tells one publication
 abbrev pub TagsTellOne : Type 0
 TagsTellOne = (book : Book) → HasDistinctTags book → (p q : Publication) → In p book → In q book → p.tag ≡ q.tag → p ≡ q
+
+-- What a server answers may be sent: its tag is kept, its positions lie in the file, and its numbers have 64 bits.
+abbrev pub AnswersAreSent : Type 0
+AnswersAreSent =
+    (catalogue : Catalogue) (seen : Option SeenRequest) → IsCatalogue catalogue → IsSent (answer_by catalogue seen).reply
 
 -- a message has one answer
 abbrev pub AnswersAreUnique : Type 0

@@ -11,7 +11,7 @@ use http_fields::tag::{Tag, is_opaque_tag, is_weak_tag};
 use httparse::Status;
 use httparse::spans::{EMPTY_HEADER_SPAN, parse_response};
 
-/// What stands in a head, and how many bytes it has.
+/// The parts of a head, and how many bytes it has.
 #[derive(Drop)]
 pub(crate) struct AnswerHead<'b> {
     pub(crate) status: u16,
@@ -21,7 +21,7 @@ pub(crate) struct AnswerHead<'b> {
     pub(crate) size: usize,
 }
 
-/// The bytes where a head is looked for.
+/// Returns the bytes in which a head is looked for.
 fn head_front(bytes: &[u8]) -> &[u8]
     ensures front { result.now ≡ take HEAD_LIMIT bytes.now }
     ensures short { length result.now ≤ HEAD_LIMIT }
@@ -34,7 +34,8 @@ fn head_front(bytes: &[u8]) -> &[u8]
     }
 }
 
-/// The head at the front of an answer.
+/// Returns the head at the front of an answer. Fails with `Why::Cut` where it isn't whole, and with `Why::Head` where
+/// there is none.
 pub(crate) fn head_of(bytes: &[u8]) -> Result<AnswerHead<'_>, Why>
     ensures { FindsHead bytes.now (found_seen result) }
 {
@@ -59,7 +60,7 @@ pub(crate) fn head_of(bytes: &[u8]) -> Result<AnswerHead<'_>, Why>
 }
 
 impl<'b> AnswerHead<'b> {
-    /// Whether the head says that the connection ends with the answer (RFC 9112, section 9.6).
+    /// Returns whether the head says that the connection ends with the answer (RFC 9112, section 9.6).
     pub(crate) fn says_close(&self) -> bool
         ensures { result ≡ says_close (head_seen self.now) }
     {
@@ -72,7 +73,8 @@ impl<'b> AnswerHead<'b> {
         self.fields.has(b"Transfer-Encoding") || self.fields.has(b"Content-Encoding")
     }
 
-    /// Its strong tag of at most 64 bytes, where no coding is named.
+    /// Returns its strong ETag of at most 64 bytes. Fails with `Why::Coding` where a coding is named, and with
+    /// `Why::NoTag`, `Why::WeakTag` or `Why::TagTooLong`.
     pub(crate) fn tag(&self) -> Result<Tag, Why>
         ensures { result ≡ tag_in (head_seen self.now) }
     {

@@ -9,8 +9,9 @@ use http_fields::line::{push_closing, push_decimal, push_line};
 use http_fields::tag::Tag;
 use std::alloc::{AllocError, Global};
 
-/// The request for the bytes of a span of the file under a name; with a tag it asks for them if the file still has that tag, and else for
-/// the whole file (RFC 9110, sections 13.1.5 and 14.2). The connection is to end with the answer. Its only error is want of memory.
+/// Returns the text of a request for the bytes of `span` of the file `name` at `host`. With `tag` it asks for them if
+/// the file still has this ETag, and else for the whole file (RFC 9110, sections 13.1.5 and 14.2). It asks that the
+/// connection end with the answer. Fails with `Memory` alone.
 pub fn write_request(
     alloc: Global,
     host: &[u8],
@@ -24,7 +25,8 @@ pub fn write_request(
     write_by(alloc, host, name, span, tag, true)
 }
 
-/// The same request without the field that ends the connection (RFC 9112, section 9.3): another may follow it there.
+/// Returns the same text without the field that ends the connection (RFC 9112, section 9.3). Another request may follow
+/// it there. Fails with `Memory` alone.
 pub fn write_open_request(
     alloc: Global,
     host: &[u8],
@@ -38,7 +40,7 @@ pub fn write_open_request(
     write_by(alloc, host, name, span, tag, false)
 }
 
-/// A request by which the connection is to end with the answer, or may go on.
+/// Returns the text of a request. `close` says whether it asks that the connection end with the answer.
 fn write_by(
     alloc: Global,
     host: &[u8],
@@ -61,7 +63,8 @@ fn write_by(
     Ok(text)
 }
 
-/// The check whether the file under a name still has the tag.
+/// Returns the text of a check whether the file `name` at `host` still has the ETag `tag` (RFC 9110, section 13.1.2).
+/// Fails with `Memory` alone.
 pub fn write_check(alloc: Global, host: &[u8], name: &[u8], tag: &Tag) -> Result<Vec<u8>, Memory>
     ensures { IfOk result (λ text. text.items ≡ check_text host.now name.now tag.now) }
 {

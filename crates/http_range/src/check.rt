@@ -8,12 +8,12 @@ use crate::answer_head::{AnswerHead, head_of};
 use crate::reading::{Why, has_other_status};
 use http_fields::tag::Tag;
 
-/// What the answer to a check says: the tag under which the server has the file, or why it is not used.
+/// What the answer to a check says: the ETag under which the server has the file, or why the answer isn't used.
 #[derive(Debug, Drop)]
 pub enum CheckReading {
-    /// The server has the file with this tag.
+    /// The server has the file under this ETag.
     Seen(Tag),
-    /// The answer isn't used.
+    /// The answer isn't used, for this reason.
     NotUsed(Why),
 }
 
@@ -33,7 +33,7 @@ fn read(bytes: &[u8]) -> Result<Tag, Why>
     check_tag(&head)
 }
 
-/// What the answer to a check, or a front of it, says.
+/// Returns what the answer to a check says. `bytes` is the answer, or a front of it.
 pub fn read_check(bytes: &[u8]) -> CheckReading
     ensures { ReadsCheck bytes.now (check_seen result) }
 {

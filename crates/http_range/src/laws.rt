@@ -1,11 +1,11 @@
-//! Laws of the definitions, for the crates above. Each function does nothing but name the laws
-//! that it rests on: its contract is the law.
-ghost use Rattle.http_range.specs.Laws.{HeadsGrow, FramesGrow, FrontsAreRead, ChecksAreRead, HonestyIsKept, ContentRangesAreForms, TagsTellPublications, PublicationTagsAreKept, AnswersAreUnique, StreamsAreAnsweredOnce, MessagesStay, MessagesAreTested, HeadsAreMessages, HeadsStay, ClientsAreAnswered, RequestsAreAnswered, ChecksAreAnswered, ClientsAreServed, OpenClientsAreServed, ChecksAreServed, PublishReplaces, PublishedIsNamed};
+//! Laws of the definitions, for the crates above. Each function only names the laws that it rests on: its contract is
+//! the law.
+ghost use Rattle.http_range.specs.Laws.{HeadsGrow, FramesGrow, FrontsAreRead, ChecksAreRead, HonestyIsKept, ContentRangesAreForms, TagsTellPublications, PublicationTagsAreKept, AnswersAreSent, AnswersAreUnique, StreamsAreAnsweredOnce, MessagesStay, MessagesAreTested, HeadsAreMessages, HeadsStay, ClientsAreAnswered, RequestsAreAnswered, ChecksAreAnswered, ClientsAreServed, OpenClientsAreServed, ChecksAreServed, PublishReplaces, PublishedIsNamed};
 ghost use Rattle.http_fields.specs.Laws.{TagsAreQuoted};
 
 use http_fields::laws::law_parts_are_read;
 
-/// Different epochs or numbers give different tags, and each is a tag that is kept.
+/// States that different epochs or numbers give different ETags, and that a client keeps each of them.
 pub fn law_tags_tell_publications()
     ensures apart { TagsTellPublications }
     ensures kept { PublicationTagsAreKept }
@@ -13,8 +13,8 @@ pub fn law_tags_tell_publications()
     law_parts_are_read();
 }
 
-/// What was found of a message or of its head stays so when bytes follow, and a head that was printed is found. Reading backwards
-/// finds the end of a message.
+/// States that a message, or its head, stays as it was found when bytes follow. A head that was printed is found.
+/// Reading backwards finds the end of a message.
 pub fn law_messages_stay()
     ensures messages { MessagesStay }
     ensures heads { HeadsStay }
@@ -22,13 +22,19 @@ pub fn law_messages_stay()
     ensures tested { MessagesAreTested }
 {}
 
-/// A message has one answer of a catalogue, and a stream one list of answers.
+/// States that a message has one answer of a catalogue, and a stream one list of answers.
 pub fn law_answers_are_unique()
     ensures message { AnswersAreUnique }
     ensures stream { StreamsAreAnsweredOnce }
 {}
 
-/// What a server answers to the text of a client's request, and of its check: as a message, and at the front of a stream.
+/// States that a server's answer has a tag that is kept, positions that lie in the file, and numbers of 64 bits.
+pub fn law_answers_are_sent()
+    ensures { AnswersAreSent }
+{}
+
+/// States what a server answers to the text of a client's request, and of its check. The text may be a message, or the
+/// front of a stream.
 pub fn law_clients_are_answered()
     ensures followed { ClientsAreAnswered }
     ensures requests { RequestsAreAnswered }
@@ -40,28 +46,28 @@ pub fn law_clients_are_answered()
     law_parts_are_read();
 }
 
-/// What stands under a name after a publication, and that it has that name.
+/// States what stands under a name after a publication, and that it has that name.
 pub fn law_publications_replace()
     ensures replaces { PublishReplaces }
     ensures named { PublishedIsNamed }
 {}
 
-/// An answer of a server is honest, and stays so where it is cut and where the book grows.
+/// States that an answer of a server is honest, and stays so where it is cut and where the book grows.
 pub fn law_honesty_is_kept()
     ensures { HonestyIsKept }
 {}
 
-/// What is read of an answer's head stays when bytes follow.
+/// States that what is read of an answer's head stays when bytes follow.
 pub fn law_heads_grow()
     ensures { HeadsGrow }
 {}
 
-/// Where an answer ends stays when bytes follow.
+/// States that the end of an answer stays where it is when bytes follow.
 pub fn law_frames_grow()
     ensures { FramesGrow }
 {}
 
-/// What is read of a server's answer, whole or cut.
+/// States what is read of a server's answer, whole or cut.
 pub fn law_fronts_are_read()
     ensures answers { FrontsAreRead }
     ensures checks { ChecksAreRead }
@@ -69,8 +75,8 @@ pub fn law_fronts_are_read()
     law_parts_are_read();
 }
 
-/// The tests and functions that read tags and Content-Range are the forms of the standard, of Content-Range that of this profile:
-/// `bytes a-b/l`.
+/// States that the functions that read tags and Content-Range take the forms of the standard. Of Content-Range they
+/// take the form of this profile: `bytes a-b/l`.
 pub fn law_values_have_forms()
     ensures tags { TagsAreQuoted }
     ensures ranges { ContentRangesAreForms }

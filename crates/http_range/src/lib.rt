@@ -1,7 +1,8 @@
-//! Byte ranges, entity tags and heads of HTTP/1.1 (RFC 9110, RFC 9112), for files that are read by single ranges.
+//! Reads and writes byte ranges, ETags and heads of HTTP/1.1 (RFC 9110, RFC 9112), for files that are read by single byte
+//! ranges.
 //!
-//! Only `write_request`, `write_open_request`, `write_check`, `write_head` and `append_head` take memory. Positions and
-//! lengths are in bytes, and positions count from 0.
+//! Only `write_request`, `write_open_request`, `write_check`, `write_head` and `append_head` allocate memory. Positions
+//! and lengths are in bytes, and positions count from 0.
 #![tactic(auto)]
 
 mod answer_head;
@@ -26,9 +27,9 @@ pub use http_fields::limits::{ANSWERS_LIMIT, MESSAGE_LIMIT};
 pub use http_fields::names::{is_host, is_name};
 pub use http_fields::tag::Tag;
 pub use laws::{
-    law_answers_are_unique, law_clients_are_answered, law_frames_grow, law_fronts_are_read,
-    law_heads_grow, law_honesty_is_kept, law_messages_stay, law_publications_replace,
-    law_tags_tell_publications, law_values_have_forms,
+    law_answers_are_sent, law_answers_are_unique, law_clients_are_answered, law_frames_grow,
+    law_fronts_are_read, law_heads_grow, law_honesty_is_kept, law_messages_stay,
+    law_publications_replace, law_tags_tell_publications, law_values_have_forms,
 };
 pub use publication::{FILE_LIMIT, NAMES_LIMIT, publication_tag};
 pub use range::{RangeSpec, Resolved, read_range, resolve};

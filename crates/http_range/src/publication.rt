@@ -1,4 +1,4 @@
-//! Publications: their limits and their tags.
+//! The limits and the ETags of publications.
 ghost use Rattle.std.specs.Prelude.{◌≡◌, ◌≤◌, ◌+◌, ◌++◌, length};
 ghost use Rattle.arrayvec.specs.ArrayVec.{array_vec_len};
 ghost use Rattle.http_range.specs.Book.{publication_tag};
@@ -12,10 +12,10 @@ use itoa::Buffer;
 /// The most bytes of a published file: 64 MiB.
 pub const FILE_LIMIT: usize = 67_108_864;
 
-/// The most names that a server has files under.
+/// The most names under which a server has files.
 pub const NAMES_LIMIT: usize = 64;
 
-/// The tag `"E-N"` of publication `number` of an epoch. It takes no memory.
+/// Returns the ETag `"E-N"` of publication `number` of an epoch. It allocates nothing.
 pub fn publication_tag(epoch: u32, number: u32) -> Tag
     ensures { result ≡ publication_tag epoch number }
 {

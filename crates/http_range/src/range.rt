@@ -1,4 +1,4 @@
-//! Ranges of a content (RFC 9110, section 14).
+//! Byte ranges of a content (RFC 9110, section 14).
 ghost use Rattle.std.specs.Prelude.{◌≡◌, ◌≤◌, ◌<◌, ◌^◌, ◌↔◌, ℕ, List, take, option_map, Some, codes};
 ghost use Rattle.std.specs.Str.{bytes_eq, str_to_ascii_lowercase};
 ghost use Rattle.http_fields.specs.Digits.{number};
@@ -9,18 +9,18 @@ use http_fields::bytes::{is_same_word, past, place_of, split_first, up_to};
 use http_fields::laws::law_parts_are_read;
 use http_fields::numeral::{capped, in_order, is_number, number};
 
-/// The value of a Range field: positions count from 0, and the last one belongs to the part.
+/// The value of a Range field. Positions count from 0, and the last one belongs to the range.
 #[derive(Clone, Copy, Debug, PartialEq, Eq)]
 pub enum RangeSpec {
     /// From a first to a last position.
     Between(u64, u64),
     /// From a position to the end.
     From(u64),
-    /// The last so many bytes.
+    /// The last bytes, as many as the value says.
     Suffix(u64),
 }
 
-/// What a range names in a content: its first and its last position.
+/// What a byte range names in a content.
 #[derive(Clone, Copy, Debug, PartialEq, Eq)]
 pub enum Resolved {
     /// All of it.
@@ -102,8 +102,9 @@ fn read(value: &[u8]) -> Option<RangeSpec>
     spec_behind(past(value, 6))
 }
 
-/// The range that the value of a Range field names, with numbers past 64 bits lowered to the greatest. None where it is no range of
-/// bytes (RFC 9110, section 14.1.1), or one that is ignored, as section 14.2 allows: several ranges, or white space in it.
+/// Reads the value of a Range field. Numbers past 64 bits are lowered to the greatest of 64 bits. Returns `None` where
+/// the value is no range of bytes (RFC 9110, section 14.1.1). Returns `None`, too, where it has several ranges, or
+/// white space. Section 14.2 allows to ignore these.
 ///
 /// ```
 /// let range = read_range(b"bytes=0-99");
@@ -125,8 +126,8 @@ pub fn read_range(value: &[u8]) -> Option<RangeSpec>
     read(value)
 }
 
-/// What the range names in a content of `len` bytes: all of it where there is none, a part that ends in it, or nothing, which is
-/// answered by 416 (RFC 9110, section 14.1.2).
+/// Returns what the range names in a content of `len` bytes (RFC 9110, section 14.1.2). This is all of it where `spec`
+/// is `None`, a part of it, or nothing. The answer is 416 where it is nothing.
 pub fn resolve(spec: Option<RangeSpec>, len: u64) -> Resolved
     requires { 1 ≤ len }
     ensures value { result ≡ resolved_or spec len }

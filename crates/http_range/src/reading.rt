@@ -1,4 +1,4 @@
-//! A client's reading of answers.
+//! How a client reads answers.
 ghost use Rattle.std.specs.Prelude.{◌≡◌, true, false, None, IfOk};
 ghost use Rattle.http_range.specs.AnswerHead.{head_seen};
 ghost use Rattle.http_range.specs.Announced.{announced, announced_seen, head_reading_seen, piece_behind, FitsFile, FitsFront};
@@ -12,31 +12,32 @@ use http_fields::bytes::{after, past, split_first, up_to};
 use http_fields::digits::number_64;
 use http_fields::tag::Tag;
 
-/// Why an answer is not used.
+/// Why an answer isn't used.
 #[derive(Clone, Copy, Debug, PartialEq, Eq)]
 pub enum Why {
     /// The head isn't whole.
     Cut,
-    /// No head, more than 32 fields, or none whole in 4,096 bytes.
+    /// There is no head, or it has more than 32 fields, or it isn't whole in 4,096 bytes.
     Head,
-    /// Another status than 200 and 206; of an answer to a check, another than 200, 206 and 304.
+    /// The status code, which is neither 200 nor 206. In the answer to a check it isn't 304 either.
     Status(u16),
-    /// No ETag, several, or one that is no entity tag.
+    /// There is no ETag field, or several, or its value is no entity tag.
     NoTag,
-    /// A weak tag: it doesn't name one sequence of bytes.
+    /// The ETag is weak: it doesn't name one sequence of bytes.
     WeakTag,
-    /// A tag of more than 64 bytes.
+    /// The ETag has more than 64 bytes.
     TagTooLong,
-    /// A part without exactly one Content-Range that is read.
+    /// A part hasn't exactly one Content-Range that can be read.
     NoRange,
-    /// Not exactly one Content-Length that is read, or, of a part, one that isn't its range's length.
+    /// There isn't exactly one Content-Length that can be read. Of a part, it may also differ from the length of the
+    /// range.
     NoLength,
-    /// A transfer or content coding.
+    /// There is a transfer coding or a content coding.
     Coding,
 }
 
 impl Why {
-    /// The number under which the refusal is told, 1 to 9.
+    /// Returns the number of this reason, 1 to 9.
     pub fn number(self) -> u8
         ensures { result ≡ number_of_why self }
     {
@@ -54,10 +55,10 @@ impl Why {
     }
 }
 
-/// A piece of a file: the bytes of the revision with this tag from a first position on.
+/// A piece of a file: the bytes of one revision from a position on.
 #[derive(Debug, Drop)]
 pub struct Piece<'b> {
-    /// The revision's tag.
+    /// The ETag of the revision.
     pub tag: Tag,
     /// Whether the answer is the whole file.
     pub whole: bool,
@@ -72,7 +73,7 @@ pub struct Piece<'b> {
 /// The head of an answer that brings a piece of a file: of which revision, from where on, and how many bytes.
 #[derive(Debug, Drop)]
 pub struct Head {
-    /// The revision's tag.
+    /// The ETag of the revision.
     pub tag: Tag,
     /// Whether the answer is the whole file.
     pub whole: bool,
@@ -80,9 +81,9 @@ pub struct Head {
     pub first: u64,
     /// The length of the whole file in bytes.
     pub complete: u64,
-    /// The length of the body in bytes; what follows it is no part of the answer.
+    /// The length of the body in bytes. What follows it is no part of the answer.
     pub length: u64,
-    /// The length of the head in bytes; the body follows it.
+    /// The length of the head in bytes. The body follows it.
     pub size: usize,
 }
 
@@ -91,7 +92,7 @@ pub struct Head {
 pub enum HeadReading {
     /// A piece of a file follows.
     Head(Head),
-    /// The answer isn't used.
+    /// The answer isn't used, for this reason.
     NotUsed(Why),
 }
 
@@ -100,7 +101,7 @@ pub enum HeadReading {
 pub enum Reading<'b> {
     /// A piece of a file.
     Piece(Piece<'b>),
-    /// The answer isn't used.
+    /// The answer isn't used, for this reason.
     NotUsed(Why),
 }
 
@@ -149,7 +150,7 @@ fn range_of_numbers(
     }
 }
 
-/// The positions of its only Content-Range.
+/// Returns the positions of its only Content-Range.
 fn range_named(head: &AnswerHead) -> Option<ContentRange>
     ensures value { result ≡ range_named (head_seen head.now) }
     ensures fits { IsRange result }
@@ -160,7 +161,7 @@ fn range_named(head: &AnswerHead) -> Option<ContentRange>
     }
 }
 
-/// The number of its only Content-Length.
+/// Returns the number of its only Content-Length.
 fn length_named(head: &AnswerHead) -> Option<u64>
     ensures { result ≡ length_named (head_seen head.now) }
 {
@@ -228,7 +229,7 @@ fn announced_in(head: &AnswerHead, tag: Tag) -> Result<Head, Why>
     }
 }
 
-/// Whether the status is neither that of the whole file nor that of a part.
+/// Returns whether the status is neither that of the whole file nor that of a part.
 pub(crate) fn has_other_status(head: &AnswerHead) -> bool
     ensures { result ≡ has_other_status (head_seen head.now) }
 {
@@ -254,8 +255,8 @@ fn read(bytes: &[u8]) -> Result<Head, Why>
     announced_of(&head)
 }
 
-/// What the head of an answer announces, read from a front of the answer. While fewer than 4,096 bytes are there, `Why::Cut` and
-/// `Why::Head` may change with the bytes that follow.
+/// Returns what the head of an answer announces. `bytes` is a front of the answer. While it has fewer than 4,096 bytes,
+/// `Why::Cut` and `Why::Head` may change with the bytes that follow.
 pub fn read_head(bytes: &[u8]) -> HeadReading
     ensures reads { ReadsHead bytes.now (head_reading_seen result) }
     ensures fits { IfOk (head_reading_seen result) FitsFile }
@@ -280,10 +281,11 @@ fn piece_behind(bytes: &[u8], head: Head) -> Piece<'_>
     }
 }
 
-/// What an answer, or a front of one, says. The piece's body is what follows the head, as far as the answer's length goes.
+/// Returns what an answer, or a front of one, says. The piece's body is what follows the head, as far as the answer's
+/// length goes.
 pub fn read_answer(bytes: &[u8]) -> Reading<'_>
     ensures reads { ReadsAnswer bytes.now (reading_seen result) }
-    // A piece that is read lies in its file, also where the answer is not an honest one.
+    // A piece that is read lies in its file, also where the answer isn't an honest one.
     ensures fits { IfOk (reading_seen result) IsInside }
 {
     match read_head(bytes) {

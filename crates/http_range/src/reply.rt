@@ -9,14 +9,14 @@ use http_fields::line::{push_closing, push_decimal, push_line, push_number_line}
 use http_fields::tag::Tag;
 use std::alloc::{AllocError, Global};
 
-/// What a server answers: a status with what its head says. Lengths and positions are in bytes.
+/// What a server answers: a status code with what its head says. Lengths and positions are in bytes.
 #[derive(Debug, Drop)]
 pub enum Reply {
-    /// The whole file, of this length.
+    /// The whole file. Its ETag and its length.
     R200(Tag, u64),
-    /// The bytes from a first to a last position of a file of this length.
+    /// A byte range of a file. Its ETag, the first and the last position, and the length of the file.
     R206(Tag, u64, u64, u64),
-    /// The client has the file with this tag already.
+    /// The client has the file with this ETag already.
     R304(Tag),
     /// What came is no request that is answered.
     R400,
@@ -24,13 +24,14 @@ pub enum Reply {
     R404,
     /// The method is neither GET nor HEAD.
     R405,
-    /// The file has none of the tags that the client named.
+    /// The file has none of the ETags that the client named.
     R412,
     /// No byte of a file of this length was asked for.
     R416(u64),
 }
 
-/// The head of an answer, with the empty line at its end.
+/// Returns the head of an answer, with the empty line at its end. `close` says whether the connection ends with the
+/// answer. Fails with `Memory` alone.
 pub fn write_head(alloc: Global, reply: &Reply, close: bool) -> Result<Vec<u8>, Memory>
     ensures { IfOk result (λ text. text.items ≡ head_text reply.now close) }
 {
@@ -39,7 +40,8 @@ pub fn write_head(alloc: Global, reply: &Reply, close: bool) -> Result<Vec<u8>, 
     Ok(text)
 }
 
-/// Adds the head of an answer to a text, with the empty line at its end. What the text holds where memory is refused isn't said.
+/// Adds the head of an answer to `text`, with the empty line at its end. Fails with `Memory` alone. Then it isn't said
+/// what `text` holds.
 pub fn append_head(text: &mut Vec<u8>, reply: &Reply, close: bool) -> Result<(), Memory>
     ensures { OnOk result (text.new.items ≡ text.old.items ++ head_text reply.now close) }
 {
@@ -105,7 +107,7 @@ fn push_206(
     Ok(())
 }
 
-/// The number of bytes from a first to a last position.
+/// Returns the number of bytes from a first to a last position.
 fn part_size(first: u64, last: u64) -> u128
     ensures { result ≡ last - first + 1 }
 {

@@ -16,7 +16,7 @@ use httparse::Status;
 use httparse::spans::{EMPTY_HEADER_SPAN, parse_request};
 use std::marker::Model;
 
-/// A request's head. It lends its parts from the message, and is seen as them.
+/// The head of a request. Its parts are borrowed from the message, and contracts see it as these parts.
 #[derive(Drop)]
 pub struct Request<'b> {
     method: &'b [u8],
@@ -36,56 +36,56 @@ impl<'b> Model for Request<'b> {
 }
 
 impl<'b> Request<'b> {
-    /// The method, whose case matters.
+    /// Returns the method, whose case matters.
     pub fn method(&self) -> &'b [u8]
         ensures { result.now ≡ self.now.method }
     {
         self.method
     }
 
-    /// The request target, as it was sent.
+    /// Returns the request target, as it was sent.
     pub fn target(&self) -> &'b [u8]
         ensures { result.now ≡ self.now.target }
     {
         self.target
     }
 
-    /// The version's second number: 1 in HTTP/1.1.
+    /// Returns the minor version: 1 in HTTP/1.1.
     pub fn minor(&self) -> u8
         ensures { result ≡ self.now.minor }
     {
         self.minor
     }
 
-    /// The value of the `i`-th field under a name, counted from 0. Names ignore case.
+    /// Returns the value of the `i`-th field `name`, counted from 0, or `None`. The case of names is ignored.
     pub fn field(&self, name: &[u8], i: usize) -> Option<&'b [u8]>
         ensures { option_copied result ≡ slice_get (values_of name.now self.now.fields) i }
     {
         self.fields.nth(name, i)
     }
 
-    /// The value of the only field under a name.
+    /// Returns the value of the only field `name`. Returns `None` where there is none, or more than one.
     pub fn only(&self, name: &[u8]) -> Option<&'b [u8]>
         ensures { option_copied result ≡ only (values_of name.now self.now.fields) }
     {
         self.fields.only(name)
     }
 
-    /// Whether a field has this name.
+    /// Returns whether there is a field `name`.
     pub fn has(&self, name: &[u8]) -> bool
         ensures { result ≡ is_there (values_of name.now self.now.fields) }
     {
         self.fields.has(name)
     }
 
-    /// Whether a field under a name has this word among its members. Case is ignored.
+    /// Returns whether a field `name` has `word` among its members. Case is ignored.
     pub fn has_member(&self, name: &[u8], word: &[u8]) -> bool
         ensures { result ≡ list_any (has_member word.now) (values_of name.now self.now.fields) }
     {
         self.fields.has_member(name, word)
     }
 
-    /// Whether a field under a name matches the tag, as `any_match` says of its value.
+    /// Returns whether a field `name` matches the ETag, as `any_match` says of its value.
     pub fn one_matches(&self, name: &[u8], tag: &Tag, strong: bool) -> bool
         ensures { result ≡ one_matches (values_of name.now self.now.fields) tag.now strong }
     {
@@ -93,7 +93,8 @@ impl<'b> Request<'b> {
     }
 }
 
-/// The head at the front of a message: None where no front of at most 8,192 bytes is a head of at most 32 fields.
+/// Returns the head at the front of a message. Returns `None` where no front of at most 8,192 bytes is a head of at
+/// most 32 fields.
 pub fn read_request(bytes: &[u8]) -> Option<Request<'_>>
     ensures finds { HasRequest bytes.now result }
 

@@ -5,7 +5,7 @@ ghost use Rattle.http_range.specs.Stream.{HasNoMessage, IsFirstMessage, IsUnfini
 
 use http_fields::limits::MESSAGE_LIMIT;
 
-/// Whether the text ends where a line begins.
+/// Returns whether the text ends where a line begins.
 fn begins_line(text: &[u8]) -> bool
     ensures { result ≡ begins_line (reverse text.now) }
 {
@@ -15,7 +15,7 @@ fn begins_line(text: &[u8]) -> bool
     }
 }
 
-/// Whether its last line has nothing so far, or CR alone.
+/// Returns whether the last line of the text has nothing so far, or CR alone.
 fn has_empty_line(text: &[u8]) -> bool
     ensures { result ≡ has_empty_line (reverse text.now) }
 {
@@ -25,7 +25,7 @@ fn has_empty_line(text: &[u8]) -> bool
     }
 }
 
-/// Whether it ends with LF, and the line before that isn't empty.
+/// Returns whether the text ends with LF, and the line before that isn't empty.
 fn ends_line(text: &[u8]) -> bool
     ensures { result ≡ ends_line (reverse text.now) }
 {
@@ -44,7 +44,7 @@ fn without_return(text: &[u8]) -> &[u8]
     }
 }
 
-/// Whether it ends with a line that isn't empty, and then an empty one.
+/// Returns whether the text ends with a line that isn't empty, and then an empty one.
 fn ends_head(text: &[u8]) -> bool
     ensures { result ≡ ends_head (reverse text.now) }
 {
@@ -61,8 +61,8 @@ fn is_message(front: &[u8]) -> bool
     front.len() == MESSAGE_LIMIT || ends_head(front)
 }
 
-/// The length of the first message of a stream, of which no front of at most `scanned` bytes is a message. None where
-/// more bytes have to come first. Only the bytes past `scanned` are gone through.
+/// Returns the length of the first message of a stream, or `None` where more bytes have to come first. No front of at
+/// most `scanned` bytes is a message. Only the bytes after these are gone through.
 pub fn message_length(bytes: &[u8], scanned: usize) -> Option<usize>
     requires within { scanned ≤ length bytes.now }
     requires none { HasNoMessage bytes.now scanned }
