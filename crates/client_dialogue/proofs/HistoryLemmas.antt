@@ -27,11 +27,11 @@ use Rattle.client_dialogue.specs.Goes.{rounds_of}
 
 -- ---- one event more
 
-run-end : (es : List Event) (e : Event) (p : Past) → run (es ++ e ∷ []) p ≡ happened e (run es p)
+pub run-end : (es : List Event) (e : Event) (p : Past) → run (es ++ e ∷ []) p ≡ happened e (run es p)
 run-end [] e p = refl
 run-end (x ∷ es) e p = run-end es e (happened x p)
 
-can-end : (es : List Event) (e : Event) (p : Past) → CanRun es p → CanHappen e (run es p).status → CanRun (es ++ e ∷ []) p
+pub can-end : (es : List Event) (e : Event) (p : Past) → CanRun es p → CanHappen e (run es p).status → CanRun (es ++ e ∷ []) p
 can-end [] e p h is = (is, tt)
 can-end (x ∷ es) e p h is = (h.0, can-end es e (happened x p) h.1 is)
 
@@ -106,7 +106,7 @@ asks_more Sends text c =
     record { more_asked = text ∷ []; asked = refl; more_texts = []; texts = sym (append-nil c.texts) }
 asks_more Anew text c = alike c c refl refl
 
-own_next : (e : Event) (p : Past) (rs : List Round) → AreOwn rs (connections_of p) → AreOwn rs (connections_of (happened e p))
+pub own_next : (e : Event) (p : Past) (rs : List Round) → AreOwn rs (connections_of p) → AreOwn rs (connections_of (happened e p))
 own_next (Asked text) p rs h = own_stay rs p.now _ p.before (asks_more (turn_of text p.status) text p.now) h
 own_next (SentEarly text) p rs h = own_stay rs p.now _ p.before (asks_more Sends text p.now) h
 own_next Opened p rs h = own_more rs _ (p.now ∷ p.before) h
@@ -119,14 +119,14 @@ own_next Ended p rs h = h
 
 -- ---- a history with one event more
 
-abbrev next : History → Event → List Round → ClientState → List ℕ → History
+abbrev pub next : History → Event → List Round → ClientState → List ℕ → History
 next h e rs last request = record { events = h.events ++ e ∷ []; rounds = rs; last = last; request = request }
 
 past-next : (h : History) (e : Event) (rs : List Round) (last : ClientState) (request : List ℕ)
     → past_of (next h e rs last request) ≡ happened e (past_of h)
 past-next h e rs last request = run-end h.events e none_yet
 
-build : (start : ClientState) (allowed : ℕ) (h : History) (t : Talk) (c : ClientState) → IsHistory start allowed h t c
+pub build : (start : ClientState) (allowed : ℕ) (h : History) (t : Talk) (c : ClientState) → IsHistory start allowed h t c
     → (e : Event) (rs : List Round) (last : ClientState) (request : List ℕ) (u : Talk) (d : ClientState)
     → CanHappen e t.status → (happened e (past_of h)).status ≡ u.status → AreRounds rs start last
     → IsUnder u.asked last request (happened e (past_of h)).front u.status d
@@ -145,17 +145,17 @@ build start allowed h t c is e rs last request u d can status rounds under own f
     }
 
 -- what is under way
-under_true : (start : ClientState) (allowed : ℕ) (h : History) (t : Talk) (c : ClientState) → IsHistory start allowed h t c → t.asked ≡ true
+pub under_true : (start : ClientState) (allowed : ℕ) (h : History) (t : Talk) (c : ClientState) → IsHistory start allowed h t c → t.asked ≡ true
     → IsUnder true h.last h.request (past_of h).front t.status c
 under_true start allowed h t c is busy =
     subst (λ (b : Bool). IsUnder b h.last h.request (past_of h).front t.status c) busy is.under
 
-under_false : (start : ClientState) (allowed : ℕ) (h : History) (t : Talk) (c : ClientState) → IsHistory start allowed h t c → t.asked ≡ false
+pub under_false : (start : ClientState) (allowed : ℕ) (h : History) (t : Talk) (c : ClientState) → IsHistory start allowed h t c → t.asked ≡ false
     → IsUnder false h.last h.request (past_of h).front t.status c
 under_false start allowed h t c is idle =
     subst (λ (b : Bool). IsUnder b h.last h.request (past_of h).front t.status c) idle is.under
 
-few_at : (start : ClientState) (allowed : ℕ) (h : History) (t : Talk) (c : ClientState) (b : Bool) → IsHistory start allowed h t c → t.asked ≡ b
+pub few_at : (start : ClientState) (allowed : ℕ) (h : History) (t : Talk) (c : ClientState) (b : Bool) → IsHistory start allowed h t c → t.asked ≡ b
     → begun h.rounds + (t.exchanges + (if b then 1 else 0)) ≡ allowed
 few_at start allowed h t c b is same =
     subst (λ (x : Bool). begun h.rounds + (t.exchanges + (if x then 1 else 0)) ≡ allowed) same is.few
@@ -313,7 +313,7 @@ quiet_goes Begun bytes t c s busy opens takes own which = absurd which
 quiet_goes Body bytes t c s busy opens takes own which = absurd which
 quiet_goes Refused bytes t c s busy opens takes own which = absurd which
 
-live_of : AnswersAreInOrder → (h : History) (s : Status) → CanRun h.events none_yet → (past_of h).status ≡ s → s.is_open ≡ true → IsLive (past_of h)
+pub live_of : AnswersAreInOrder → (h : History) (s : Status) → CanRun h.events none_yet → (past_of h).status ≡ s → s.is_open ≡ true → IsLive (past_of h)
 live_of order h s can same opens =
     subst (λ (b : Bool). IsNow b (past_of h)) (ap (λ (x : Status). x.is_open) same ∙ opens) (order h.events can).now
 
@@ -361,7 +361,7 @@ body_goes bytes t c d s busy opens takes own feeds =
 -- ---- the end of an exchange
 
 -- a round ends by one event, after which no body is under way
-ends_goes : (rounds : List Round → List Round → Type 0) (bytes : List ℕ) (t : Talk) (c d : ClientState) (s : Status) (e : Event) → t.asked ≡ true
+pub ends_goes : (rounds : List Round → List Round → Type 0) (bytes : List ℕ) (t : Talk) (c d : ClientState) (s : Status) (e : Event) → t.asked ≡ true
     → CanHappen e t.status → AreTaken bytes (e ∷ []) s → ((p : Past) → p.status ≡ t.status → (happened e p).status ≡ s) → s.left ≡ None
     → ((h : History) → CanRun h.events none_yet → (past_of h).status ≡ t.status → IsUnder true h.last h.request (past_of h).front t.status c
     → (r : Round) × IsRound r h.last d × (begun (r ∷ h.rounds) ≡ begun h.rounds + 1) × rounds h.rounds (r ∷ h.rounds)
@@ -431,270 +431,3 @@ then_let_go bytes t c u d busy goes = λ start allowed h is.
       },
       l.2,
     )
-
--- ---- queries
-
-pub begins_idle : (t : Talk) (n : ℕ) → t.asked ≡ false → BeginsAnew n t (record t { exchanges = n })
-begins_idle t n idle = λ start allowed h c d is.
-    let u = under_false start allowed h t c is idle in (
-      record { events = h.events; rounds = []; last = d; request = [] },
-      ([], sym (append-nil h.events)),
-      refl,
-      record {
-        can = is.can;
-        status = is.status;
-        rounds = refl;
-        under = subst (λ (b : Bool). IsUnder b d [] (past_of h).front t.status d) (sym idle) (refl, u.1);
-        own = tt;
-        few = subst (λ (b : Bool). 0 + (n + (if b then 1 else 0)) ≡ n) (sym idle) (omega arith);
-      },
-    )
-
-pub begins_busy : (t : Talk) (n : ℕ) → BeginsAnew n t (record { status = over []; asked = false; exchanges = n })
-begins_busy t n = λ start allowed h c d is.
-    let same = sym (run-end h.events Ended none_yet) in (
-      record { events = h.events ++ Ended ∷ []; rounds = []; last = d; request = [] },
-      (Ended ∷ [], refl),
-      refl,
-      record {
-        can = can-end h.events Ended none_yet is.can tt;
-        status = subst (λ (p : Past). p.status ≡ over []) same refl;
-        rounds = refl;
-        under = (refl, refl);
-        own = tt;
-        few = omega arith;
-      },
-    )
-
-pub begins_over : (t : Talk) → t.asked ≡ false → BeginsAnew t.exchanges t (record t { status = over [] })
-begins_over t idle =
-    subst (λ (b : Bool). BeginsAnew t.exchanges t (record { status = over []; asked = b; exchanges = t.exchanges })) (sym idle) (begins_busy t t.exchanges)
-
--- ---- requests
-
-same_text : (o text : List ℕ) → bytes_eq o text ≡ true → o ≡ text
-same_text o text e = grind (arith, bytes_eq-Decides)
-
-sent_first : (out : List (List ℕ)) (text : List ℕ) → turn_after out text ≡ Sent → (early : List (List ℕ)) × (out ≡ text ∷ early)
-sent_first [] text e = (let clash : Sends ≡ Sent = e in cc)
-sent_first (o ∷ os) text e = elim (cases_Bool (bytes_eq o text)) [
-  | inl same ↦ (os, ap (λ (t : List ℕ). t ∷ os) (same_text o text same))
-  | inr other ↦ (let clash : Anew ≡ Sent = rw other at e in cc)
-]
-
-sends_first : (out : List (List ℕ)) (text : List ℕ) → turn_after out text ≡ Sends → out ++ text ∷ [] ≡ text ∷ []
-sends_first [] text e = refl
-sends_first (o ∷ os) text e = elim (cases_Bool (bytes_eq o text)) [
-  | inl same ↦ (let clash : Sent ≡ Sends = rw same at e in cc)
-  | inr other ↦ (let clash : Anew ≡ Sends = rw other at e in cc)
-]
-
--- a request that comes on the connection comes after those that are out
-on_it : (t : Turn) (text : List ℕ) (s : Status) → (t ≡ Anew → ⊥) → turn_of text s ≡ t → turn_after s.out text ≡ t
-on_it t text s other e = elim (cases_Bool (s.is_open && is_between s)) [
-  | inl opens ↦ rw opens at e
-  | inr none ↦ absurd (other (sym (rw none at e)))
-]
-
-turned_first : (t : Turn) (text : List ℕ) (s : Status) → turn_of text s ≡ t → (early : List (List ℕ)) × ((turned t text s).out ≡ text ∷ early)
-turned_first Sent text s e = sent_first s.out text (on_it Sent text s (λ x. let clash : Sent ≡ Anew = x in cc) e)
-turned_first Sends text s e = ([], sends_first s.out text (on_it Sends text s (λ x. let clash : Sends ≡ Anew = x in cc) e))
-turned_first Anew text s e = ([], refl)
-
-turned_left : (t : Turn) (text : List ℕ) (s : Status) → s.left ≡ None → (turned t text s).left ≡ None
-turned_left Sent text s e = e
-turned_left Sends text s e = e
-turned_left Anew text s e = refl
-
-pub put_goes : AnswersBeginAnywhere → (t : Talk) (before c : ClientState) (text : List ℕ) → t.asked ≡ false → 0 < t.exchanges
-    → RequestsKeeping before (Some text) c
-    → Goes Stays [] t before (record { status = after_ask text t.status; asked = true; exchanges = t.exchanges - 1 }) c
-put_goes begins t before c text idle some asks = λ start allowed h is.
-    let u = under_false start allowed h t before is idle in
-    let few = few_at start allowed h t before false is idle in
-    let s = after_ask text t.status in
-    let left : s.left ≡ None = turned_left (turn_of text t.status) text t.status u.1 in (
-      next h (Asked text) h.rounds h.last text,
-      record { more = Asked text ∷ []; events = refl; taken = inl refl; made = refl },
-      build start allowed h t before is (Asked text) h.rounds h.last text (record { status = s; asked = true; exchanges = t.exchanges - 1 }) c tt
-          (ap (after_ask text) is.status) is.rounds (
-            c,
-            subst (λ (x : ClientState). RequestsKeeping x (Some text) c) u.0 asks,
-            subst (λ (o : Option ℕ). Fed c (fed_of o (past_of h).front) c) (sym left) (begins c asks.seen.feed),
-            turned_first (turn_of text t.status) text t.status refl,
-          )
-          (own_next (Asked text) (past_of h) h.rounds is.own) (omega (arith, few, some)),
-    )
-
-pub put_fails : AnswersBeginAnywhere → (t : Talk) (before c : ClientState) (text : List ℕ) → t.asked ≡ false → 0 < t.exchanges
-    → RequestsKeeping before (Some text) c
-    → Goes Fails [] t before (record { status = over []; asked = false; exchanges = t.exchanges - 1 }) c
-put_fails begins t before c text idle some asks =
-    then_let_go [] t before (record { status = after_ask text t.status; asked = true; exchanges = t.exchanges - 1 }) c refl
-    (put_goes begins t before c text idle some asks)
-
--- a turn of the client in which nothing happens on a connection
-turn_goes : (rounds : List Round → List Round → Type 0) (r : Round) (t : Talk) (c d : ClientState) → t.asked ≡ false → IsRound r c d
-    → ((rs : List Round) → (begun (r ∷ rs) ≡ begun rs) × rounds rs (r ∷ rs) × ((cs : List Connection) → AreOwn rs cs → AreOwn (r ∷ rs) cs))
-    → Goes rounds [] t c t d
-turn_goes rounds r t c d idle is_round same = λ start allowed h is.
-    let u = under_false start allowed h t c is idle in
-    let facts = same h.rounds in (
-      record { events = h.events; rounds = r ∷ h.rounds; last = d; request = h.request },
-      record { more = []; events = sym (append-nil h.events); taken = inl refl; made = facts.1 },
-      record {
-        can = is.can;
-        status = is.status;
-        rounds = (h.last, is.rounds, subst (λ (x : ClientState). IsRound r x d) u.0 is_round);
-        under = subst (λ (b : Bool). IsUnder b d h.request (past_of h).front t.status d) (sym idle) (refl, u.1);
-        own = facts.2 (connections_of (past_of h)) is.own;
-        few = ap (λ (n : ℕ). n + (t.exchanges + (if t.asked then 1 else 0))) facts.0 ∙ is.few;
-      },
-    )
-
-pub rests_goes : (t : Talk) (c d : ClientState) → t.asked ≡ false → RequestsKeeping c None d → Goes MakesNone [] t c t d
-rests_goes t c d idle asks = turn_goes MakesNone Rested t c d idle asks (λ rs. (refl, inr refl, λ cs own. own))
-
-pub unasked_goes : (t : Talk) (c d : ClientState) → t.asked ≡ false → StopsAsking c d → Goes Fails [] t c t d
-unasked_goes t c d idle stops = turn_goes Fails Unasked t c d idle stops (λ rs. (refl, inr (inl refl), λ cs own. own))
-
--- ---- the answer is whole
-
--- it stands at the place of the first request that is out
-placed_now : (p : Past) (request text : List ℕ) (early : List (List ℕ)) (what : Delivered) → IsLive p → p.status.out ≡ request ∷ early → text ≡ p.front
-    → IsPlaced (record { request = request; text = text; whole = true; what = what }) (record (p.now) { texts = p.now.texts ++ p.front ∷ [] })
-placed_now p request text early what l out same = record {
-  asked_before = take (length p.now.texts) p.now.asked;
-  asked_after = early;
-  asked =
-      sym (take-append-drop (length p.now.texts) p.now.asked)
-      ∙ ap (λ (ts : List (List ℕ)). take (length p.now.texts) p.now.asked ++ ts) (sym l.out ∙ out);
-  texts_before = p.now.texts;
-  texts_after = [];
-  texts = ap (λ (xs : List ℕ). p.now.texts ++ xs ∷ []) (sym same);
-  place = omega (arith, l.order.few, length-take (length p.now.texts) p.now.asked);
-}
-
-finish_left : (s : Status) → (after_finish s).left ≡ None
-finish_left s = elim (cases_Bool s.closes) [
-  | inl closes ↦ rw closes refl
-  | inr stays ↦ rw stays refl
-]
-
-finished_goes : AnswersAreInOrder → (t : Talk) (c d : ClientState) (what : Delivered) → t.asked ≡ true → t.status.is_open ≡ true
-    → t.status.left ≡ Some 0 → Concludes [] what c d
-    → Goes (MakesOne what) [] t c (record t { status = after_finish t.status; asked = false }) d
-finished_goes order t c d what busy opens whole takes =
-    ends_goes (MakesOne what) [] t c d (after_finish t.status) Finished busy (opens, whole) (inl refl) (λ p same. ap after_finish same)
-    (finish_left t.status) (λ h can same u.
-    let text = (past_of h).front ++ [] in
-    let made : Exchange = record { request = h.request; text = text; whole = true; what = what } in
-    let fed : Fed u.0 (past_of h).front c = subst (λ (o : Option ℕ). Fed u.0 (fed_of o (past_of h).front) c) whole u.2 in
-    let l = live_of order h t.status can same opens in
-    let out : (past_of h).status.out ≡ h.request ∷ u.3.0 = ap (λ (x : Status). x.out) same ∙ u.3.1 in (
-      Made made,
-      (u.0, u.1, takes u.0 (past_of h).front fed),
-      refl,
-      (made, refl, refl),
-      (λ own. ((λ is. inl (placed_now (past_of h) h.request text u.3.0 what l out (append-nil (past_of h).front))), own)),
-    ))
-
-pub finish_goes : AnswersAreInOrder → (t : Talk) (c d : ClientState) (u : Talk) (what : Delivered) → t.asked ≡ true → t.status.is_open ≡ true
-    → Concludes [] what c d → HasGoneOn what (record t { asked = false }) u → Goes (MakesOne what) [] t c u d
-finish_goes order t c d u what busy opens takes gone = elim gone [
-  | inl went ↦ subst (λ (x : Talk). Goes (MakesOne what) [] t c x d) (sym went.1) (finished_goes order t c d what busy opens went.0 takes)
-  | inr ended ↦ subst (λ (x : Talk). Goes (MakesOne what) [] t c x d) (sym ended)
-      (made_goes [] [] t c d (over []) Ended what busy tt (inl refl) (λ p same. refl) refl takes)
-]
-
--- ---- a connection that is lost
-
-gone_left : (s : Status) → (after_gone s).left ≡ None
-gone_left s = elim (cases_Bool (is_again s)) [
-  | inl again ↦ rw again refl
-  | inr other ↦ rw other refl
-]
-
-pub lost_goes : (text : List ℕ) (t : Talk) (c d : ClientState) (what : Delivered) → t.asked ≡ true → Concludes text what c d
-    → Goes (MakesOne what) [] t c (record t { status = after_gone t.status; asked = false }) d
-lost_goes text t c d what busy takes =
-    made_goes [] text t c d (after_gone t.status) Gone what busy tt (inl refl) (λ p same. ap after_gone same) (gone_left t.status) takes
-
-pub ended_goes : (t : Talk) (c d : ClientState) (what : Delivered) → t.asked ≡ true → Concludes [] what c d
-    → Goes (MakesOne what) [] t c (given_up t) d
-ended_goes t c d what busy takes = made_goes [] [] t c d (over []) Ended what busy tt (inl refl) (λ p same. refl) refl takes
-
-pub stopped_goes : (text : List ℕ) (t : Talk) (c d : ClientState) → t.asked ≡ true → Halts text c d → Goes Fails [] t c (given_up t) d
-stopped_goes text t c d busy halts = halted_goes [] text t c d (over []) Ended busy tt (inl refl) (λ p same. refl) refl halts
-
--- ---- parts
-
-more_step : (bytes : List ℕ) (step : Step) (t : Talk) (c : ClientState) (v u : Talk) (d : ClientState) → step ≡ More → u ≡ v
-    → Goes Stays bytes t c v d → Goes (rounds_of step) bytes t c u d
-more_step bytes step t c v u d more same goes =
-    subst (λ (x : Step). Goes (rounds_of x) bytes t c u d) (sym more)
-    (subst (λ (x : Talk). Goes MakesNone bytes t c x d) (sym same) (none_goes bytes t c v d goes))
-
-quiet_step : (part : Part) (bytes : List ℕ) (step : Step) (t : Talk) (c : ClientState) (s : Status) (u : Talk) (d : ClientState)
-    → t.asked ≡ true → t.status.is_open ≡ true → Takes part bytes t.status s → (¬ (part ≡ Stray) → 0 < length t.status.out) → IsQuiet part
-    → (step ≡ More) × (u ≡ record t { status = s }) × (d ≡ c) → Goes (rounds_of step) bytes t c u d
-quiet_step part bytes step t c s u d busy opens takes own quiet fed =
-    subst (λ (x : ClientState). Goes (rounds_of step) bytes t c u x) (sym fed.2)
-    (more_step bytes step t c (record t { status = s }) u c fed.0 fed.1 (quiet_goes part bytes t c s busy opens takes own quiet))
-
-pub fed_goes : AnswersAreInOrder → (part : Part) (bytes : List ℕ) (step : Step) (t : Talk) (c : ClientState) (s : Status) (u : Talk) (d : ClientState)
-    → t.asked ≡ true → t.status.is_open ≡ true → Takes part bytes t.status s → (¬ (part ≡ Stray) → 0 < length t.status.out)
-    → IsFedBy part bytes step (record t { status = s }) c u d → Goes (rounds_of step) bytes t c u d
-fed_goes order Head bytes step t c s u d busy opens takes own fed =
-    quiet_step Head bytes step t c s u d busy opens takes own tt fed
-fed_goes order Interim bytes step t c s u d busy opens takes own fed =
-    quiet_step Interim bytes step t c s u d busy opens takes own tt fed
-fed_goes order Again bytes step t c s u d busy opens takes own fed =
-    quiet_step Again bytes step t c s u d busy opens takes own tt fed
-fed_goes order Begun bytes step t c s u d busy opens takes own fed =
-    more_step bytes step t c (record t { status = s }) u d fed.0 fed.1 (begun_goes order bytes t c d s busy opens takes own fed.2)
-fed_goes order Body bytes step t c s u d busy opens takes own fed =
-    more_step bytes step t c (record t { status = s }) u d fed.0 fed.1 (body_goes bytes t c d s busy opens takes own fed.2)
-fed_goes order Refused bytes step t c s u d busy opens takes own fed =
-    subst (λ (x : Step). Goes (rounds_of x) bytes t c u d) (sym fed.1)
-    (subst (λ (x : Talk). Goes (MakesOne fed.0.delivered) bytes t c x d) (sym fed.2)
-    (made_goes bytes s.head t c d s (Came Refused bytes s) fed.0.delivered busy (opens, takes, own) (inl (append-nil bytes)) (λ p same. refl)
-    (rw takes.1.1 refl) fed.3))
-fed_goes order Stray bytes step t c s u d busy opens takes own fed = λ start allowed h is.
-    let v = under_true start allowed h t c is busy in
-    let clash : 0 ≡ suc (length v.3.0) = ap length (sym takes.0 ∙ v.3.1) in
-    absurd (omega (arith, clash))
-
-pub halt_goes : (part : Part) (bytes : List ℕ) (t : Talk) (c : ClientState) (s : Status) (u : Talk) (d : ClientState)
-    → t.asked ≡ true → IsHaltedBy part bytes (record t { status = s }) c u d → Goes Fails [] t c u d
-halt_goes Head bytes t c s u d busy halted = absurd halted
-halt_goes Interim bytes t c s u d busy halted = absurd halted
-halt_goes Again bytes t c s u d busy halted = absurd halted
-halt_goes Begun bytes t c s u d busy halted =
-    subst (λ (x : Talk). Goes Fails [] t c x d) (sym halted.0) (stopped_goes s.head t c d busy halted.1)
-halt_goes Body bytes t c s u d busy halted =
-    subst (λ (x : Talk). Goes Fails [] t c x d) (sym halted.0) (stopped_goes bytes t c d busy halted.1)
-halt_goes Refused bytes t c s u d busy halted =
-    subst (λ (x : Talk). Goes Fails [] t c x d) (sym halted.0) (stopped_goes s.head t c d busy halted.1)
-halt_goes Stray bytes t c s u d busy halted =
-    subst (λ (x : Talk). Goes Fails [] t c x d) (sym halted.0) (stopped_goes s.head t c d busy halted.1)
-
--- ---- results
-
-pub sent_step : {E : Type 0} (r : Result Step E) (t : Talk) (before : ClientState) (text : List ℕ) (u : Talk) (c : ClientState)
-    → RequestsKeeping before (Some text) c
-    → OnOk r ((b : ClientState) → RequestsKeeping b (Some text) c → Goes Stays [] t b u c)
-    → IfOk r (λ step. (step ≡ More) × (u.asked ≡ true)) → IfOk r (λ step. Goes (rounds_of step) [] t before u c)
-sent_step (Err e) t before text u c asks goes says = tt
-sent_step (Ok step) t before text u c asks goes says = more_step [] step t before u u c says.0 refl (goes before asks)
-
-pub head_step : {E : Type 0} (r : Result Step E) (t now : Talk) (c : ClientState) (s : Status) (u : Talk) (d : ClientState) → t ≡ now → t.asked ≡ true
-    → s ≡ after_gone t.status → IfOk r (λ step. IsConcluded step (record t { status = s }) c u d)
-    → IfOk r (λ step. Goes (rounds_of step) [] now c u d)
-head_step (Err e) t now c s u d same busy gone done = tt
-head_step (Ok step) t now c s u d same busy gone done =
-    subst (λ (x : Step). Goes (rounds_of x) [] now c u d) (sym done.1)
-    (subst (λ (x : Talk). Goes (MakesOne done.0.delivered) [] x c u d) same
-    (subst (λ (x : Talk). Goes (MakesOne done.0.delivered) [] t c x d)
-    (sym (done.2 ∙ ap (λ (x : Status). record t { status = x; asked = false }) gone))
-    (lost_goes s.head t c d done.0.delivered busy done.3)))

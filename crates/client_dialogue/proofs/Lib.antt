@@ -1,3 +1,5 @@
 mod HistoryLemmas
+mod ExchangeLemmas
 mod Results
+mod UsefulLemmas
 mod TruthLemmas

@@ -1,4 +1,5 @@
 pub mod History
+pub mod Useful
 pub mod Inside
 pub mod Checking
 pub mod Goes

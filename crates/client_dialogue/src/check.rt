@@ -3,6 +3,7 @@ ghost use Rattle.std.specs.Prelude.{◌≡◌, ◌≤◌, [], false, IfOk, OnErr
 ghost use Rattle.client_connection.specs.Status.{after_gone, after_open, after_write, over};
 ghost use Rattle.cog_client.specs.Check.{check_of};
 ghost use Rattle.client_dialogue.specs.Checking.{ChecksBy, IsCheckOf};
+ghost use Rattle.client_dialogue.specs.Useful.{IsStatusOf};
 
 use crate::dialogue::status_of;
 use client_connection::ClientConnection;
@@ -77,7 +78,9 @@ impl Check {
     }
 
     /// Returns the status code of the answer, or 0 where no whole head came.
-    pub fn status(&self) -> u16 {
+    pub fn status(&self) -> u16
+        ensures { IsStatusOf self.now.head result }
+    {
         status_of(self.connection.head())
     }
 

@@ -1,6 +1,7 @@
 -- What others know of a source over sockets.
-use Rattle.std.specs.Prelude.{ℕ, Bool, List}
-use Rattle.client_connection.specs.Status.{Status}
+use Rattle.std.specs.Prelude.{◌≡◌, ◌⊎◌, ◌≤◌, ◌+◌, ℕ, Bool, List, length, take, drop, IsSome}
+use Rattle.client_connection.specs.Status.{Status, Takes}
+use Rattle.client_connection.specs.declared.parts.Part.TheVariants.{Body}
 use Rattle.client_sockets.specs.declared.socket.Socket.{Socket}
 
 -- the exchanges so far
@@ -18,6 +19,25 @@ keeps s = s.keeps
 -- the client's end of its connections
 abbrev pub connection_of : {R : Type 0} → Socket R → Status
 connection_of s = s.connection
+
+-- how many bytes of the answer's head were handed on
+abbrev pub handed_of : {R : Type 0} → Socket R → ℕ
+handed_of s = s.handed
+
+-- The next bytes of the head are handed on, which came before.
+abbrev pub HandsHead : {R : Type 0} → List ℕ → Status → Socket R → Socket R → Type 0
+HandsHead bytes reached s t = (bytes ≡ take (length bytes) (drop (handed_of s) reached.head))
+    × (handed_of t ≡ handed_of s + length bytes) × (connection_of t ≡ reached)
+
+-- After all of the head, bytes are handed on that the connection takes as the next ones of the body.
+abbrev pub HandsBody : {R : Type 0} → List ℕ → Status → Socket R → Socket R → Type 0
+HandsBody bytes reached s t = (length reached.head ≤ handed_of s) × (handed_of t ≡ handed_of s) × Takes Body bytes reached (connection_of t)
+
+-- The bytes are the next ones of the answer: of its head, once it is whole or the connection is over, or of its body.
+pub record Hands {R : Type 0} (bytes : List ℕ) (s t : Socket R) : Type 0 where
+  pub reached : Status
+  pub stays : IsSome (connection_of s).left → reached ≡ connection_of s
+  pub next : HandsHead bytes reached s t ⊎ HandsBody bytes reached s t
 
 -- it speaks for no file
 abbrev pub Nothing : Type 0

@@ -1,7 +1,8 @@
 //! Connections to a server that is named by its address: one for each request, or one that is kept from answer to answer.
-ghost use Rattle.std.specs.Prelude.{◌≡◌, ◌<◌, ◌≤◌, ℕ, [], None, Some, false, true, IfOk, length, take};
-ghost use Rattle.client_connection.specs.Status.{over};
-ghost use Rattle.client_sockets.specs.Sockets.{connection_of, exchanges_of, keeps, server_of};
+ghost use Rattle.std.specs.Prelude.{◌≡◌, ◌<◌, ◌≤◌, ◌+◌, ℕ, [], None, Some, false, true, IfOk, IsSome, drop, length, take};
+ghost use Rattle.client_connection.specs.Status.{Takes, over};
+ghost use Rattle.client_connection.specs.declared.parts.Part.TheVariants.{Body};
+ghost use Rattle.client_sockets.specs.Sockets.{Hands, connection_of, exchanges_of, handed_of, keeps, server_of};
 
 use client_connection::{ClientConnection, Part, Turn};
 use cog_client::{Lost, Pieces};
@@ -93,6 +94,7 @@ impl<'r, R: Net<Stream = TcpStream> + AllocGlobal> Socket<'r, R> {
         ensures server { server_of self.new ≡ server_of self.old }
         ensures exchanges { exchanges_of self.new ≡ exchanges_of self.old }
         ensures keeps { keeps self.new ≡ keeps self.old }
+        ensures handed { handed_of self.new ≡ handed_of self.old }
         ensures alone { connection_of self.new ≡ over [] }
     {
         self.stream = None;
@@ -105,6 +107,7 @@ impl<'r, R: Net<Stream = TcpStream> + AllocGlobal> Socket<'r, R> {
         ensures server { server_of self.new ≡ server_of self.old }
         ensures exchanges { exchanges_of self.new ≡ exchanges_of self.old }
         ensures keeps { keeps self.new ≡ keeps self.old }
+        ensures handed { handed_of self.new ≡ handed_of self.old }
         ensures alone { connection_of self.new ≡ over [] }
     {
         self.close();
@@ -181,6 +184,7 @@ impl<'r, R: Net<Stream = TcpStream> + AllocGlobal> Socket<'r, R> {
         ensures server { server_of self.new ≡ server_of self.old }
         ensures exchanges { exchanges_of self.new ≡ exchanges_of self.old }
         ensures keeps { keeps self.new ≡ keeps self.old }
+        ensures handed { handed_of self.new ≡ handed_of self.old }
     {
         if self.try_connect() {
             return Ok(());
@@ -194,6 +198,7 @@ impl<'r, R: Net<Stream = TcpStream> + AllocGlobal> Socket<'r, R> {
         ensures server { server_of self.new ≡ server_of self.old }
         ensures exchanges { exchanges_of self.new ≡ exchanges_of self.old }
         ensures keeps { keeps self.new ≡ keeps self.old }
+        ensures handed { handed_of self.new ≡ handed_of self.old }
     {
         self.unread.clear();
         self.stream = TcpStream::connect(self.rt, self.server).ok();
@@ -210,6 +215,7 @@ impl<'r, R: Net<Stream = TcpStream> + AllocGlobal> Socket<'r, R> {
         ensures server { server_of self.new ≡ server_of self.old }
         ensures exchanges { exchanges_of self.new ≡ exchanges_of self.old }
         ensures keeps { keeps self.new ≡ keeps self.old }
+        ensures handed { handed_of self.new ≡ handed_of self.old }
         ensures status { result ≡ false → connection_of self.new ≡ connection_of self.old }
     {
         let Some(stream) = &mut self.stream else {
@@ -245,6 +251,7 @@ impl<'r, R: Net<Stream = TcpStream> + AllocGlobal> Socket<'r, R> {
         ensures server { server_of self.new ≡ server_of self.old }
         ensures exchanges { exchanges_of self.new ≡ exchanges_of self.old }
         ensures keeps { keeps self.new ≡ keeps self.old }
+        ensures handed { handed_of self.new ≡ handed_of self.old }
         ensures connection { connection_of self.new ≡ connection_of self.old }
     {
         let Some(stream) = &mut self.stream else {
@@ -265,6 +272,7 @@ impl<'r, R: Net<Stream = TcpStream> + AllocGlobal> Socket<'r, R> {
         ensures server { server_of self.new ≡ server_of self.old }
         ensures exchanges { exchanges_of self.new ≡ exchanges_of self.old }
         ensures keeps { keeps self.new ≡ keeps self.old }
+        ensures handed { handed_of self.new ≡ handed_of self.old }
     {
         self.stream = None;
         self.unread.clear();
@@ -279,6 +287,7 @@ impl<'r, R: Net<Stream = TcpStream> + AllocGlobal> Socket<'r, R> {
         ensures server { server_of self.new ≡ server_of self.old }
         ensures exchanges { exchanges_of self.new ≡ exchanges_of self.old }
         ensures keeps { keeps self.new ≡ keeps self.old }
+        ensures handed { handed_of self.new ≡ handed_of self.old }
         ensures connection { connection_of self.new ≡ connection_of self.old }
         ensures some { result ≡ true → 0 < length self.new.unread.items }
     {
@@ -301,6 +310,7 @@ impl<'r, R: Net<Stream = TcpStream> + AllocGlobal> Socket<'r, R> {
         ensures server { server_of self.new ≡ server_of self.old }
         ensures exchanges { exchanges_of self.new ≡ exchanges_of self.old }
         ensures keeps { keeps self.new ≡ keeps self.old }
+        ensures handed { handed_of self.new ≡ handed_of self.old }
     {
         let Ok(taken) = self.connection.came(&self.unread) else {
             self.give_up();
@@ -322,6 +332,8 @@ impl<'r, R: Net<Stream = TcpStream> + AllocGlobal> Socket<'r, R> {
 
     /// Reads until the head of the answer is whole, or the connection is over.
     fn reach_body(&mut self)
+        ensures stays { IsSome (connection_of self.old).left → connection_of self.new ≡ connection_of self.old }
+        ensures handed { handed_of self.new ≡ handed_of self.old }
         ensures server { server_of self.new ≡ server_of self.old }
         ensures exchanges { exchanges_of self.new ≡ exchanges_of self.old }
         ensures keeps { keeps self.new ≡ keeps self.old }
@@ -341,6 +353,9 @@ impl<'r, R: Net<Stream = TcpStream> + AllocGlobal> Socket<'r, R> {
     /// Hands on bytes of the head that weren't, and returns how many. A head that isn't whole is handed on where the connection is over.
     fn hand_head(&mut self, out: &mut [u8]) -> usize
         ensures few { result ≤ length out.new }
+        ensures bytes { take result out.new ≡ take result (drop (handed_of self.old) (connection_of self.old).head) }
+        ensures handed { handed_of self.new ≡ handed_of self.old + result }
+        ensures none { result ≡ 0 → 0 < length out.new → length (connection_of self.old).head ≤ handed_of self.old }
         ensures server { server_of self.new ≡ server_of self.old }
         ensures exchanges { exchanges_of self.new ≡ exchanges_of self.old }
         ensures keeps { keeps self.new ≡ keeps self.old }
@@ -363,6 +378,8 @@ impl<'r, R: Net<Stream = TcpStream> + AllocGlobal> Socket<'r, R> {
         requires is { (connection_of self.old).left ≡ Some left }
         requires more { 0 < left }
         ensures few { IfOk result (λ n. n ≤ length out.new) }
+        ensures takes { IfOk result (λ n. 0 < n → Takes Body (take n out.new) (connection_of self.old) (connection_of self.new)) }
+        ensures handed { IfOk result (λ n. 0 < n → handed_of self.new ≡ handed_of self.old) }
         ensures server { server_of self.new ≡ server_of self.old }
         ensures exchanges { exchanges_of self.new ≡ exchanges_of self.old }
         ensures keeps { keeps self.new ≡ keeps self.old }
@@ -374,8 +391,8 @@ impl<'r, R: Net<Stream = TcpStream> + AllocGlobal> Socket<'r, R> {
             return if self.is_broken { Err(Lost) } else { Ok(0) };
         }
         match self.connection.came(&out[..count]) {
-            Ok(_) => Ok(count),
-            Err(_) => {
+            Ok(taken) if taken.part == Part::Body && taken.count == count => Ok(count),
+            _ => {
                 self.give_up();
                 Err(Lost)
             }
@@ -388,6 +405,7 @@ impl<'r, R: Net<Stream = TcpStream> + AllocGlobal> Socket<'r, R> {
         ensures server { server_of self.new ≡ server_of self.old }
         ensures exchanges { exchanges_of self.new ≡ exchanges_of self.old }
         ensures keeps { keeps self.new ≡ keeps self.old }
+        ensures handed { handed_of self.new ≡ handed_of self.old }
         ensures connection { connection_of self.new ≡ connection_of self.old }
     {
         if self.unread.is_empty() {
@@ -416,10 +434,10 @@ impl<'r, R: Net<Stream = TcpStream> + AllocGlobal> Socket<'r, R> {
 }
 
 impl<R: Net<Stream = TcpStream> + AllocGlobal> Pieces for Socket<'_, R> {
-    ghost use Rattle.std.specs.Prelude.{◌≡◌, ◌<◌, ◌≤◌, [], true, IfOk, IsTrue, OnErr, OnOk, length, ⊤};
+    ghost use Rattle.std.specs.Prelude.{◌≡◌, ◌<◌, ◌≤◌, [], true, IfOk, IsTrue, OnErr, OnOk, length, take, ⊤};
     ghost use Rattle.cog_client.specs.Pieces.{BringsOf};
     ghost use Rattle.cog_client.specs.Transport.{AnswersOn, OrLost, SpeaksOn};
-    ghost use Rattle.client_sockets.specs.Sockets.{exchanges_of, keeps, Nothing};
+    ghost use Rattle.client_sockets.specs.Sockets.{Hands, exchanges_of, keeps, Nothing};
 
     ghost speaks_for = { λ _ _. Nothing };
 
@@ -435,6 +453,8 @@ impl<R: Net<Stream = TcpStream> + AllocGlobal> Pieces for Socket<'_, R> {
     fn next(&mut self, out: &mut [u8]) -> Result<usize, Lost>
         requires { 0 < length out.old }
         ensures stays { keeps self.new ≡ keeps self.old }
+        // What is handed on are the next bytes of the answer.
+        ensures hands { IfOk result (λ n. 0 < n → Hands (take n out.new) self.old self.new) }
 
         // It keeps the trait's law, as a source that speaks for no file and tells nothing of its losses.
         ensures fits { IfOk result (λ n. n ≤ length out.new) }

@@ -1,4 +1,4 @@
-//! What a client keeps of an answer that comes in pieces, between two of them.
+//! How far an answer has come that comes in pieces.
 use crate::body::Body;
 use crate::case::Case;
 use crate::delivered::Ignored;
@@ -7,12 +7,12 @@ use http_range::{Head, Why};
 /// How far an answer has come.
 #[derive(Drop)]
 pub enum AnswerPhase {
-    /// It has no head yet; so many bytes of it are kept.
+    /// Its head isn't whole. The value is the number of its bytes, which are kept.
     Waits(usize),
-    /// It isn't used, whatever follows.
+    /// The answer isn't used, whatever follows.
     Unused(Why),
-    /// The case of its head passes its body over.
+    /// The body is passed over, by the case of the head.
     Passed(Ignored),
-    /// Its body is taken by the case of its head.
+    /// The body is taken, by the case of the head.
     Follows(Head, Case, Body),
 }

@@ -1,4 +1,4 @@
-//! The body of an answer that comes in pieces: its blocks are stored as they become whole.
+//! The body of an answer that comes in pieces. Its blocks are stored as they become whole.
 ghost use Rattle.std.specs.Prelude.{◌≡◌, ◌+◌, ◌-◌, ◌*◌, ◌<◌, ◌≤◌, ◌++◌, ℕ, List, [], IfOk, OnOk, OnErr, length, drop, take};
 ghost use Rattle.extents.specs.declared.limits.TheConstants.{BLOCK_SIZE};
 ghost use Rattle.http_range.specs.Announced.{announced, FitsFile};
@@ -11,7 +11,7 @@ use extents::{BLOCK_SIZE, Memory};
 use http_range::{Head, Span};
 use range_cache::{Cache, law_parts_bring_blocks, law_pieces_bring_blocks, law_stores_are_counted};
 
-/// The bytes of a room for a block that is cut.
+/// The number of bytes in which a part of a block is kept.
 pub const PART_ROOM: usize = BLOCK_SIZE as usize;
 
 /// A body, as far as it has come.
@@ -23,15 +23,16 @@ pub struct Body {
     pub complete: u64,
     /// How many bytes of it are still to come.
     pub left: u64,
-    /// What is asked for.
+    /// The byte range that is asked for.
     pub span: Span,
-    /// Whether bytes of the block are kept in which it ends so far.
+    /// Whether bytes are kept of the block in which it ends so far.
     pub keeps: bool,
     /// How many blocks were stored.
     pub count: u32,
 }
 
-/// Stores the blocks that are whole in some bytes of the file, and says how many.
+/// Stores the blocks that are whole in `bytes`, and returns how many it stored. `first` is the position of the first
+/// byte in the file.
 fn store(
     cache: &mut Cache,
     complete: u64,
@@ -52,7 +53,7 @@ fn store(
     cache.put(complete, first, bytes, span)
 }
 
-/// Copies bytes into a room, from a place in it on.
+/// Copies `bytes` into `room`, from the place `at` on.
 pub fn copy(room: &mut [u8], at: usize, bytes: &[u8])
     requires { at + length bytes.now ≤ length room.old }
     ensures copied { take (at + length bytes.now) room.new ≡ take at room.old ++ bytes.now }
@@ -61,13 +62,13 @@ pub fn copy(room: &mut [u8], at: usize, bytes: &[u8])
     room[at..at + bytes.len()].copy_from_slice(bytes);
 }
 
-/// What is kept of a body is the part of the definition.
+/// States that what is kept of a body is the part that the definition names.
 pub fn law_parts_are_kept()
     ensures { PartsAreKept }
 {}
 
 impl Body {
-    /// The body that a head announces, of which nothing came yet, for what is asked for.
+    /// Returns the body that `head` announces, of which nothing came yet. `span` is asked for.
     pub fn new(head: &Head, span: Span) -> Body
         requires fits { FitsFile (announced head.now) }
         requires few { IsFew span }
@@ -86,7 +87,7 @@ impl Body {
         }
     }
 
-    /// Takes the bytes that the block lacks in which the body ends so far, and gives the others.
+    /// Takes the bytes that the block lacks in which the body ends so far, and returns the others.
     fn finish<'b>(
         &mut self,
         part: &mut [u8],
@@ -136,8 +137,8 @@ impl Body {
         Ok(rest)
     }
 
-    /// Stores the whole blocks of bytes that begin at a block's edge, and keeps what follows the last of them, if that block is
-    /// wanted.
+    /// Stores the blocks that are whole in `bytes`, which begin at the edge of a block. If the last block is cut and
+    /// wanted, its bytes are kept.
     fn go_on(&mut self, part: &mut [u8], cache: &mut Cache, bytes: &[u8]) -> Result<(), Memory>
         requires sound { IsSoundBody self.old }
         requires all { length bytes.now ≤ self.old.left }
@@ -181,8 +182,8 @@ impl Body {
         }
     }
 
-    /// Takes the next bytes of the answer, and stores the blocks that become whole. `part`, of 16,384 bytes, is the room for a
-    /// block that is cut. After `Memory`, the only error, a beginning of the blocks is stored.
+    /// Takes the next bytes of the answer, and stores the blocks that become whole. `part` has 16,384 bytes, and keeps
+    /// a block that is cut. Fails with `Memory` alone. Then only the first of these blocks are stored, or none.
     pub fn take(&mut self, part: &mut [u8], cache: &mut Cache, bytes: &[u8]) -> Result<(), Memory>
         requires sound { IsSoundBody self.old }
         requires room { length part.old ≡ BLOCK_SIZE }

@@ -1,4 +1,4 @@
-//! The case of the table by which an answer is taken, as its head tells it.
+//! The case by which an answer is taken, which its head decides.
 ghost use Rattle.std.specs.Prelude.{◌≡◌, ◌+◌, ◌<◌, ◌^◌, Some, if◌then◌else◌, max, min, nat_le};
 ghost use Rattle.std.specs.Option.{option_map};
 ghost use Rattle.cog_client.specs.declared.case.Case.TheVariants.{Restarted, Ignored as AnIgnored};
@@ -14,16 +14,17 @@ use http_range::{Head, Span};
 /// What a piece of a file is to a client.
 #[derive(Clone, Copy)]
 pub enum Case {
+    /// It is ignored, for this reason.
     Ignored(Ignored),
-    /// It is of the client's first revision.
+    /// It is of the first revision that the client reads.
     Adopted,
     /// It is a whole file of another revision.
     Restarted,
-    /// It is of the client's revision, and asked for.
+    /// It is of the client's revision, and the client waits for an answer.
     Accepted,
 }
 
-/// The case of an answer of another revision, the whole file or a part of it.
+/// Returns the case of an answer of another revision. `whole`: it is the whole file, not a part of it.
 fn case_of_other(whole: bool) -> Case
     ensures { result ≡ (if whole then Restarted else AnIgnored OtherRevision) }
 {
@@ -34,7 +35,7 @@ fn case_of_other(whole: bool) -> Case
     }
 }
 
-/// Whether no byte of a body of that length is asked for.
+/// Returns whether no byte of a body is in `span`. The body begins at `first`, and `came` bytes of it came.
 fn is_beside_at(span: Span, first: u64, came: u64) -> bool
     requires { first + came < 2 ^ 64 }
     ensures { result ≡ nat_le (min (first + came) (span.last + 1)) (max first span.first) }
@@ -43,7 +44,7 @@ fn is_beside_at(span: Span, first: u64, came: u64) -> bool
     first + came <= from || span.last < from
 }
 
-/// The case that the head of an answer tells where there is a revision and something is asked.
+/// Returns the case of an answer by its head, where the client has a revision and waits for an answer.
 fn case_of_revision(source: &RevisionReader, head: &Head) -> Case
     ensures { result ≡ case_of_revision (revision_in source.now) (announced head.now) }
 {
@@ -56,7 +57,7 @@ fn case_of_revision(source: &RevisionReader, head: &Head) -> Case
     Case::Accepted
 }
 
-/// The case that the head of an answer tells. Whether the body is beside what is asked for is known at its end.
+/// Returns the case of an answer by its head. Whether its body has a byte that is asked for is known only at its end.
 pub fn case_of_head(source: &Option<RevisionReader>, asked: Option<Span>, head: &Head) -> Case
     ensures { result ≡ case_of_head (option_map revision_in source.now) asked (announced head.now) }
 {
@@ -69,8 +70,8 @@ pub fn case_of_head(source: &Option<RevisionReader>, asked: Option<Span>, head: 
     }
 }
 
-/// What is told at the end of an answer whose head had this case, of whose body so many bytes came and so many blocks were
-/// stored, where this was asked for.
+/// Returns what an answer did, at its end. Its head had this `case`. Of its body, `came` bytes came, and `count` blocks
+/// were stored. `span` was asked for.
 pub fn told_at_end(case: Case, head: &Head, came: u64, count: u32, span: Span) -> Delivered
     requires { head.now.first + came < 2 ^ 64 }
     ensures { result ≡ told_at_end case (announced head.now) came count (Some span) }

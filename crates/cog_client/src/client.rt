@@ -22,7 +22,7 @@ use std::alloc::Global;
 use std::marker::Model;
 use tiff_dir::{Level, Query};
 
-/// What a client asks for that has no revision: the first 65,536 bytes.
+/// Returns the span that a client without a revision asks for: the first 65,536 bytes.
 fn first_span() -> Span
     ensures { result ≡ first_span }
 {
@@ -32,9 +32,9 @@ fn first_span() -> Span
     }
 }
 
-/// A client of one file of a host, by its name. It answers one query after another, by ranges of one revision of the file,
-/// which it keeps from one query to the next: its directories, the tile arrays of the level last read, blocks of 16,384
-/// bytes in a bounded cache, and of packed tiles what they stand for.
+/// A client that reads one file, named by its host and its name. It answers one query after another, from one revision
+/// of the file at a time. Between queries it keeps the file's directories and the tile arrays of the level that was
+/// read last. It also keeps blocks of 16,384 bytes in a bounded cache, and the unpacked bytes of packed tiles.
 pub struct Client {
     alloc: Global,
     how: RequestOptions,
@@ -48,7 +48,8 @@ pub struct Client {
     partial_answer: PartialAnswer,
 }
 
-// Written out, it is one call wherever a client is let go; derived, each such place would be proved field by field.
+// Written out, the drop is one call in each place where a client is dropped. Derived, each place would be proved field
+// by field.
 impl Drop for Client {
     fn drop(self) {
         let Client {
@@ -116,9 +117,12 @@ impl Client {
     ghost use Rattle.cog_client.specs.Steps.{Adopts};
     ghost use Rattle.cog_client.specs.Check.{IsCurrent, IsStillThere, check_of};
 
-    /// A client of a file's name at a host, with a cache of `blocks` blocks of 16,384 bytes. The errors, the first that holds:
-    /// `Host`, a host that isn't 1 to 64 letters, digits, `.`, `-`, `:`; `Name`, a name that isn't 1 to 200 bytes of
-    /// `A-Z a-z 0-9 . _ - /`; `Blocks`, not 66 to 4,096 blocks; `Memory`.
+    /// Makes a client of the file `name` at `host`, with a cache of `blocks` blocks of 16,384 bytes. It has no query
+    /// and no revision. Fails with the first of these that holds:
+    /// - `Host`: the host isn't 1 to 64 letters, digits, `.`, `-`, `:`.
+    /// - `Name`: the name isn't 1 to 200 bytes of `A-Z a-z 0-9 . _ - /`.
+    /// - `Blocks`: `blocks` isn't between 66 and 4,096.
+    /// - `Memory`: an allocation failed.
     ///
     /// ```
     /// let mut client = Client::new(rt.alloc(), b"localhost:8080", b"image.tif", 66)?;
@@ -161,8 +165,9 @@ impl Client {
         })
     }
 
-    /// Asks a query, in the place of the one before. Nothing is asked of the server any more, and no report stands; what is
-    /// known of the file stays: its revision, directories, the tile arrays that were read, and blocks. It takes no memory.
+    /// Asks `query` instead of the one before. Drops the report, and what was asked of the server, with an unfinished
+    /// answer. Keeps what is known of the file: its revision, its directories, the tile arrays that were read, and the
+    /// blocks. It allocates nothing.
     pub fn open(&mut self, query: Query)
         ensures { OpensKeeping query self.old self.new }
     {
@@ -177,7 +182,7 @@ impl Client {
         }
     }
 
-    /// Drops everything but host, name, query, and how it asks. It takes no memory.
+    /// Drops everything but the host, the name, the query, and the options of requests. It allocates nothing.
     pub fn forget(&mut self)
         ensures { Forgets self.old self.new }
     {
@@ -188,46 +193,48 @@ impl Client {
         self.cache.clear();
     }
 
-    /// Writes requests, but not the check, without `Connection: close` from here on, so that a connection may be kept
-    /// from one to the next (RFC 9112, section 9.3). Whoever sends them has to know where an answer ends. It takes no
-    /// memory.
+    /// Leaves `Connection: close` out of requests from now on, but not out of the check. So a connection may be kept
+    /// from one request to the next (RFC 9112, section 9.3). The sender has to find the end of each answer. It
+    /// allocates nothing.
     pub fn keep_open(&mut self)
         ensures { KeepsOpen self.old self.new }
     {
         self.how.closes = false;
     }
 
-    /// Looks ahead by so many blocks from here on, none where this isn't called: a request asks, behind the blocks that are missing
-    /// of the range that is needed next, for the blocks that follow, where each of them is missing and needed later, up to 65 in all
-    /// and as far as they have room in the cache. What is asked for already stays. It takes no memory.
+    /// Lets each request from now on ask for up to `blocks` blocks that are needed later. Without this call there are
+    /// none. They follow the missing blocks of the range that is needed next, without a gap. Each of them is missing,
+    /// and needed later. A request asks for at most 65 blocks, and for no more than the cache has room for. A request
+    /// that was made already stays as it is. It allocates nothing.
     pub fn look_ahead(&mut self, blocks: u32)
         ensures { LooksAhead blocks self.old self.new }
     {
         self.how.ahead = blocks;
     }
 
-    /// The report that stands, until `open` or `forget`. It takes no memory.
+    /// Returns the report, or `None`. It stands until `open` or `forget`. It allocates nothing.
     pub fn report(&self) -> Option<&Report>
         ensures { Stands self.now (option_copied result) }
     {
         self.report.as_ref()
     }
 
-    /// The name of the file. It takes no memory.
+    /// Returns the name of the file. It allocates nothing.
     pub fn name(&self) -> &[u8]
         ensures { result.now ≡ name_of self.now }
     {
         &self.name
     }
 
-    /// What is asked for: the first byte and the last one, from 0. It takes no memory.
+    /// Returns the byte range of the request whose answer is awaited, or `None`. Both ends count from 0 and belong to
+    /// it. It allocates nothing.
     pub fn asked(&self) -> Option<Span>
         ensures { result ≡ asked_of self.now }
     {
         self.asked
     }
 
-    /// The tag of the client's revision. It takes no memory.
+    /// Returns the ETag of the client's revision, or `None` where it has no revision. It allocates nothing.
     pub fn tag(&self) -> Option<&Tag>
         ensures tag { option_copied result ≡ tag_of self.now }
         ensures kept { IfSome (tag_of self.now) (λ t. IsTrue (is_kept_tag t)) }
@@ -241,7 +248,7 @@ impl Client {
         }
     }
 
-    /// The length in bytes of the file that is read. It takes no memory.
+    /// Returns the length of the file in bytes, or `None` where the client has no revision. It allocates nothing.
     pub fn complete(&self) -> Option<u64>
         ensures { result ≡ option_map (λ v. v.complete) (revision_of self.now) }
     {
@@ -249,7 +256,8 @@ impl Client {
         Some(source.complete)
     }
 
-    /// The levels of the file that is read, the largest first, once all its directories are known. It takes no memory.
+    /// Returns the levels of the file, the largest first. Returns `None` unless all its directories are known. It
+    /// allocates nothing.
     pub fn levels(&self) -> Option<&[Level]>
         ensures known { MatchOption result (¬ AreDirectoriesKnown self.now) (λ _. AreDirectoriesKnown self.now) }
         ensures levels { (f : List ℕ) → Knows f self.now → IfSome result (λ levels. AreLevels f levels.now) }
@@ -258,8 +266,8 @@ impl Client {
         source.reader.levels()
     }
 
-    /// Does nothing: its contract is the law of what a client keeps between two calls beside its blocks. The tiles that are kept unpacked
-    /// have no more bytes together than the blocks may have, and what stands in one piece is at most one range.
+    /// Does nothing: its contract bounds what a client keeps besides its blocks. All unpacked tiles together have at
+    /// most as many bytes as the cache may have. The buffer for bytes in one piece has at most as many as one range.
     pub fn no_more_is_kept(&self)
         ensures tiles { size_of_tiles (tiles_of self.now) ≤ (blocks_of self.now).capacity * BLOCK_SIZE }
         ensures buffer { buffer_of self.now ≤ MAX_RANGE_BYTES }
@@ -269,13 +277,14 @@ impl Client {
         }
     }
 
-    /// Goes on as far as the blocks reach, and makes the next request: a GET with a Range of bytes (RFC 9110, section 14.2),
-    /// and with an If-Range of the revision's tag (section 13.1.5), if there is one. There is none without a query, or where a
-    /// report stands. After `Memory`, the only error, nothing is asked.
+    /// Goes on as far as the blocks reach, and returns the text of the next request. It is a GET with a Range of bytes
+    /// (RFC 9110, section 14.2). With a revision it carries an If-Range of its ETag (section 13.1.5). Returns `None`
+    /// without a query, or where a report stands. An unfinished answer is dropped. Fails with `Memory` alone, and then
+    /// nothing is asked.
     pub fn request(&mut self) -> Result<Option<Vec<u8>>, Memory>
         ensures ok { IfOk result (λ o. RequestsKeeping self.old (option_map (λ v. v.items) o) self.new) }
         ensures err { OnErr result (StopsAsking self.old self.new) }
-        // It comes only where something may be asked.
+        // An error comes only where there is a query and no report.
         ensures asks { OnErr result (IsSome (query_of self.old) × (report_of self.old ≡ None)) }
         ensures short { IfOk result (λ o. IfSome o (λ text. length text.items ≤ REQUEST_LIMIT)) }
     {
@@ -293,7 +302,8 @@ impl Client {
         Ok(Some(text))
     }
 
-    /// Returns the byte range to ask for next: the file's first bytes while no revision is known, else what `go_on` lacks.
+    /// Returns the byte range to ask for next, or `None`. It is the file's first bytes while no revision is known.
+    /// Afterwards it is what `go_on` lacks.
     fn missing(&mut self) -> Result<Option<Span>, Memory>
         requires { report_of self.old ≡ None }
         ensures goes { GoesOnKeeping self.old self.new }
@@ -310,7 +320,7 @@ impl Client {
         Ok(missing)
     }
 
-    /// The text of a request.
+    /// Returns the text of the request for `span`.
     fn request_for(&self, span: Span) -> Result<Vec<u8>, Memory>
         ensures text { IfOk result (λ text. Some text.items ≡ request_for self.now (Some span)) }
         ensures lawful { CanAsk (host_of self.now) (name_of self.now) span.first span.last (tag_of self.now) }
@@ -323,8 +333,8 @@ impl Client {
         }
     }
 
-    /// Gives the reader what the blocks have, and returns the byte range that it still lacks. Where it lacks none, its report
-    /// stands.
+    /// Gives the reader what the blocks have, and returns the byte range that it still lacks. Where it lacks none, its
+    /// report stands.
     fn go_on(&mut self) -> Result<Option<Span>, Memory>
         requires report { report_of self.old ≡ None }
         requires reads { IsSome (revision_of self.old) }
@@ -353,7 +363,7 @@ impl Client {
         }
     }
 
-    /// Takes the reader's answer for the report, where there is one, which ends what is asked for.
+    /// Moves the reader's outcome, if there is one, into the report. Then nothing is asked any more.
     fn stand(&mut self)
         requires { report_of self.old ≡ None }
         ensures goes { GoesOnKeeping self.old self.new }
@@ -378,7 +388,7 @@ impl Client {
         }
     }
 
-    /// Reads the head's revision from now on, of which nothing is known.
+    /// Reads the revision of `head` from now on. Nothing is known of it yet.
     fn adopt(&mut self, head: &Head, asked: Option<Span>)
         requires report { report_of self.old ≡ None }
         requires few { IfSome asked IsFew }
@@ -392,8 +402,8 @@ impl Client {
         self.source = Some(RevisionReader::new(self.alloc, head, self.query, room));
     }
 
-    /// The check whether the file still has the revision's tag: a HEAD request with If-None-Match (RFC 9110, section 13.1.2).
-    /// There is none without a revision. `Memory` is the only error.
+    /// Returns the text of a check: whether the file still has the revision's ETag. It is a HEAD request with
+    /// If-None-Match (RFC 9110, section 13.1.2). Returns `None` without a revision. Fails with `Memory` alone.
     pub fn check(&self) -> Result<Option<Vec<u8>>, Memory>
         ensures text { IfOk result (λ o. option_map (λ v. v.items) o ≡ check_of self.now) }
         ensures lawful { IfSome (tag_of self.now) (CanCheck (host_of self.now) (name_of self.now)) }
@@ -409,7 +419,8 @@ impl Client {
         }
     }
 
-    /// What the answer to a check, or a front of it, says: the same tag, another one, or why it says nothing. It takes no memory.
+    /// Returns what `answer` says of the client's revision: the same ETag, another one, or why it says nothing. It is
+    /// the answer to a check, or a front of it. It allocates nothing.
     pub fn current(&self, answer: &[u8]) -> Current
         ensures current { IsCurrent (tag_of self.now) answer.now result }
         ensures same { result ≡ Same → IsStillThere (tag_of self.now) answer.now }

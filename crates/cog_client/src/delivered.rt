@@ -4,11 +4,12 @@ use http_range::Why;
 /// What a delivered answer did to a client.
 #[derive(Clone, Copy, Debug, PartialEq, Eq)]
 pub enum Delivered {
-    /// It was a piece of the client's revision, of which so many blocks were stored.
+    /// It was a piece of the client's revision. The value is the number of its blocks that were stored.
     Took(u32),
     /// It was a whole file of another revision, which the client reads from now on.
     Restarted,
-    /// It changed nothing; but where its rest was dropped for want of memory, its revision may be read and blocks of it be stored.
+    /// It changed nothing. But where its rest was dropped after `Memory`, its revision may be read, and blocks of it
+    /// may be stored.
     Ignored(Ignored),
 }
 
@@ -19,7 +20,7 @@ pub enum Ignored {
     NotUsed(Why),
     /// It is a part of another revision than the client's.
     OtherRevision,
-    /// It has the client's tag, and another length of the file.
+    /// It has the client's ETag, but another length of the file.
     OtherLength,
     /// Nothing is asked, or none of its bytes is.
     NotAsked,
@@ -29,7 +30,7 @@ impl Ignored {
     ghost use Rattle.std.specs.Prelude.{◌≡◌};
     ghost use Rattle.cog_client.specs.Take.{number_of_ignored};
 
-    /// The number under which it is told: that of `Why`, or 10 to 12.
+    /// Returns the number of this reason: that of `Why`, or 10 to 12.
     pub fn number(self) -> u8
         ensures { result ≡ number_of_ignored self }
     {
@@ -45,17 +46,18 @@ impl Ignored {
 /// What the answer to a check says of the client's revision.
 #[derive(Clone, Copy, Debug, PartialEq, Eq)]
 pub enum Current {
-    /// The server has the file under the client's tag.
+    /// The server has the file under the client's ETag.
     Same,
     /// The server has another revision of it.
     Other,
+    /// The answer says nothing, for this reason.
     Unknown(Unknown),
 }
 
 /// Why the answer to a check says nothing.
 #[derive(Clone, Copy, Debug, PartialEq, Eq)]
 pub enum Unknown {
-    /// It can't be used.
+    /// The answer can't be used.
     NotUsed(Why),
     /// The client has no revision.
     NoRevision,
@@ -65,7 +67,7 @@ impl Unknown {
     ghost use Rattle.std.specs.Prelude.{◌≡◌};
     ghost use Rattle.cog_client.specs.Check.{number_of_unknown};
 
-    /// The number under which it is told: that of `Why`, or 12.
+    /// Returns the number of this reason: that of `Why`, or 12.
     pub fn number(self) -> u8
         ensures { result ≡ number_of_unknown self }
     {

@@ -13,7 +13,7 @@ pub enum ClientError {
     /// The cache has fewer than 66 or more than 4,096 blocks.
     #[error("a cache has 66 to 4,096 blocks")]
     Blocks,
-    /// There is no memory for the client.
+    /// An allocation failed.
     #[error("out of memory")]
     Memory,
 }
@@ -22,7 +22,7 @@ impl ClientError {
     ghost use Rattle.std.specs.Prelude.{◌≡◌};
     ghost use Rattle.cog_client.specs.Client.{number_of_client_error};
 
-    /// The number under which the refusal is told, 1 to 4.
+    /// Returns the number of the error, 1 to 4.
     pub fn number(&self) -> u8
         ensures { result ≡ number_of_client_error self.now }
     {
@@ -47,10 +47,10 @@ impl From<std::alloc::AllocError> for ClientError {
     }
 }
 
-/// Why fetching ended.
+/// Why fetching ended without an answer.
 #[derive(Clone, Copy, Debug, Error, PartialEq, Eq)]
 pub enum FetchError {
-    /// There was no memory for a request or its answer. The client can go on.
+    /// An allocation for a request or its answer failed. The client can go on.
     #[error("out of memory")]
     Memory,
 }
@@ -58,7 +58,7 @@ pub enum FetchError {
 impl FetchError {
     ghost use Rattle.std.specs.Prelude.{◌≡◌};
 
-    /// The number under which it is told, 1.
+    /// Returns the number of the error, 1.
     pub fn number(self) -> u8
         ensures { result ≡ 1 }
     {

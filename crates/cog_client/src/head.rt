@@ -1,4 +1,4 @@
-//! The head of an answer that comes in pieces: its bytes are kept until it is whole.
+//! The head of an answer that comes in pieces. Its bytes are kept until it is whole.
 ghost use Rattle.std.specs.Prelude.{◌<◌, ◌≡◌, ◌≢◌, Err, false, length, take, true};
 ghost use Rattle.http_fields.specs.declared.limits.TheConstants.{HEAD_LIMIT};
 ghost use Rattle.http_range.specs.declared.reading.Why.TheVariants.{Cut, Head as AHead};
@@ -12,18 +12,18 @@ use http_range::{Head, HeadReading, Why, law_heads_grow, read_head};
 /// The most bytes of a head.
 pub const HEAD_ROOM: usize = HEAD_LIMIT;
 
-/// What is known of an answer's head when more bytes of the answer came.
+/// What is known of an answer's head, after more bytes of the answer came.
 #[derive(Drop)]
 pub enum Look {
-    /// It isn't whole; so many bytes are kept.
+    /// It isn't whole. The value is the number of bytes that are kept.
     Waits(usize),
-    /// The answer is not used, whatever follows.
+    /// The answer isn't used, whatever follows.
     Unused(Why),
-    /// It is whole, and the body begins at this place of what came.
+    /// It is whole. The second value is the place at which the body begins, in the bytes that came.
     Found(Head, usize),
 }
 
-/// Whether a reason says only that no head is there so far.
+/// Returns whether the reason is only that no head is there so far.
 fn may_change(why: Why) -> bool
     ensures changes { result ≡ true → HasNone (Err why) }
     ensures stays { result ≡ false → (why ≢ Cut) × (why ≢ AHead) }
@@ -34,8 +34,8 @@ fn may_change(why: Why) -> bool
     }
 }
 
-/// Keeps the next bytes of an answer that has no head yet behind the bytes before them, and reads the head. `room`, of 4,096 bytes,
-/// has the bytes before them, `len` of them.
+/// Keeps the next bytes of an answer, and reads its head. `room` has 4,096 bytes. The first `len` of them are the bytes
+/// before, which had no head yet.
 pub fn read_on(room: &mut [u8], len: usize, bytes: &[u8]) -> Look
     requires short { len < HEAD_LIMIT }
     requires room { length room.old ≡ HEAD_LIMIT }

@@ -19,7 +19,7 @@ use range_cache::{
     law_stored_stay,
 };
 
-/// What a client still needs of a file for its query is the end of what the query needs of it.
+/// States that what a client still needs of a file for its query is the end of what the query needs of it.
 pub fn law_end_is_needed()
     ensures { (c : ClientState) (f : List ℕ) → Knows f c → IfSome (query_of c) (λ q. IsEndOf (to_come c f) (needs f q)) }
 {
@@ -27,7 +27,8 @@ pub fn law_end_is_needed()
     law_nothing_comes();
 }
 
-/// How much is left for a client to get: no more than its query costs, and never more after going on.
+/// Bounds what is left for a client to get, in blocks. It is at most what its query costs, and never grows when the
+/// client goes on.
 pub fn law_left_never_grows()
     ensures cost { CostIsMost }
     ensures opening { OpeningLeavesCost }
@@ -38,7 +39,7 @@ pub fn law_left_never_grows()
     law_missing_is_exact();
 }
 
-/// Where nothing is left, the report stands.
+/// States that the report stands where nothing is left, after a request, and after an answer that isn't ignored.
 pub fn law_nothing_left_is_reported()
     ensures request { RequestReports }
     ensures delivery { DeliveryReports }
@@ -47,8 +48,8 @@ pub fn law_nothing_left_is_reported()
     law_missing_is_exact();
 }
 
-/// What a client asks for are missing blocks each of which touches a range that its query needs: where it looks no block ahead,
-/// of one range.
+/// States that a client asks for missing blocks, each of which touches a range that its query needs. Where it looks no
+/// block ahead, all of them are of one range.
 pub fn law_needed_are_asked()
     ensures needed { NeededAreAsked }
     ensures one { OneRangeIsAsked }
@@ -58,9 +59,10 @@ pub fn law_needed_are_asked()
     law_lengths_are_known();
 }
 
-/// An answer that has all that a client asks for, or more, is never ignored, and leaves less where the client has the file's tag. A client
-/// without a revision reads the server's from then on, and so does one with another tag, for which any front of the whole file is enough.
-/// This server's answers are such, and so are their fronts of 4,096 bytes and 65 blocks.
+/// States that an answer with all that a client asks for is never ignored. Less is left after it where the client has
+/// the file's ETag. A client without a revision reads the server's from then on, and so does one with another ETag. For
+/// the latter, any front of the whole file is enough. This server's answers are such, and so are their fronts of 4,096
+/// bytes and 65 blocks.
 pub fn law_whole_answers_bring_on()
     ensures served { ServedBringOn }
     ensures own { OwnAnswersAreServed }
@@ -76,8 +78,9 @@ pub fn law_whole_answers_bring_on()
     law_stored_stay();
 }
 
-/// After an opening as many answers as the query costs, and one more, each as in `law_whole_answers_bring_on`, lead to
-/// the report, however far the client looks ahead at each of them: those of any server, and those of this one.
+/// States that the report to a query stands after at most one answer more than the query costs. Each answer is as in
+/// `law_whole_answers_bring_on`, of any server or of this one. The client may look ahead by another number of blocks
+/// each time.
 pub fn law_whole_answers_report()
     ensures served { AnswersReport IsServed }
     ensures own { AnswersReport IsOwnAnswer }
@@ -88,19 +91,19 @@ pub fn law_whole_answers_report()
     law_fronts_are_read();
 }
 
-/// A client that agrees with a book is, as far as a caller sees, of one publication of it.
+/// States that all that a caller sees of a client that agrees with a book is of one publication in it.
 pub fn law_agreement_is_seen()
     ensures { AgreementIsSeen }
 {
     law_lengths_are_known();
 }
 
-/// A report that tells the same as a true one, as a copy does, is true.
+/// States that a report is true if it says the same as a true one, as a copy does.
 pub fn law_equal_reports_are_true()
     ensures { TruthIsTold }
 {}
 
-/// An answer that comes in pieces is taken by its head, and by the body as far as it has come.
+/// States that an answer in pieces is taken by its head, and by its body as far as it has come.
 pub fn law_answers_come_in_pieces()
     ensures head { CaseIsOfHead }
     ensures leaves { LeavesByHead }
@@ -112,15 +115,17 @@ pub fn law_answers_come_in_pieces()
     law_parts_bring_blocks();
 }
 
-/// Where nothing is kept of an answer, one begins with the next bytes that are fed: `feed` and `end` need no `begin`.
+/// States that an answer begins with the next bytes that are fed, where nothing of another one is kept. So `feed` and
+/// `end` need no `begin`.
 pub fn law_answers_begin_anywhere()
     ensures { AnswersBeginAnywhere }
 {
     law_heads_grow();
 }
 
-/// In the midst of an answer, of which pieces of files of a book came, a client agrees with the book as it did before. So it does after a
-/// call that lets the answer go, as `request` and `open` do: each says that it keeps what the client agrees with.
+/// States that a client agrees with a book in the midst of an answer, if it did before. What came of the answer has to
+/// be of files of the book. So it does after a call that drops the answer, as `request` and `open` do: each keeps what
+/// the client agrees with.
 pub fn law_fronts_keep_agreement()
     ensures { FrontsKeepAgreement }
 {

@@ -1,5 +1,6 @@
-//! A client that reads windows of a published file over HTTP byte ranges, whatever is replaced, lost, cut, repeated or
-//! reordered on the way: it makes requests and takes answers, and holds of the file's one revision what it was given.
+//! Reads windows of a published file over HTTP byte ranges. A client makes the text of each request and takes its
+//! answer. It keeps bytes of one revision of the file. Files may be replaced, and answers lost, cut, repeated or
+//! reordered on the way.
 #![tactic(auto)]
 
 mod answer_phase;

@@ -1,4 +1,4 @@
-//! What is kept of an answer that comes in pieces, between two of them: no more than a head, and a block, in rooms of its own.
+//! What is kept of an answer between two of its pieces: at most a head, or one block.
 ghost use Rattle.std.specs.Prelude.{◌≡◌, IfOk, OnErr, OnOk, length};
 ghost use Rattle.http_range.specs.Announced.{announced, FitsFile};
 ghost use Rattle.cog_client.specs.PartialAnswer.{IsBounded, IsTold, LooksOn, StartsBody, StopsInBytes, TakesBytes};
@@ -17,7 +17,7 @@ use range_cache::Cache;
 use std::alloc::{AllocError, Global};
 use std::marker::Model;
 
-/// A room of so many bytes.
+/// Makes a buffer of `len` bytes.
 fn room(alloc: Global, len: usize) -> Result<Vec<u8>, AllocError>
     ensures { IfOk result (λ room. length room.items ≡ len) }
 {
@@ -31,7 +31,7 @@ pub struct Found {
     pub from: usize,
 }
 
-/// What is kept of an answer, and the rooms for its head and for a block that is cut.
+/// What is kept of an answer, with the buffers for its head and for a block that is cut.
 #[derive(Drop)]
 pub struct PartialAnswer {
     phase: AnswerPhase,
@@ -51,7 +51,7 @@ impl Model for PartialAnswer {
 }
 
 impl PartialAnswer {
-    /// The rooms, in which nothing is kept.
+    /// Makes the buffers. Nothing of an answer is kept. Fails where an allocation fails.
     pub fn new(alloc: Global) -> Result<PartialAnswer, AllocError>
         ensures { IfOk result (λ a. a ≡ nothing_fed) }
     {
@@ -71,7 +71,7 @@ impl PartialAnswer {
         self.phase = AnswerPhase::Waits(0);
     }
 
-    /// Reads on in the head, if it isn't whole. Where it is from now on, what was kept is dropped.
+    /// Reads on in the head, if it isn't whole. Returns the head once it is whole, and then drops what was kept.
     pub fn look(&mut self, bytes: &[u8]) -> Option<Found>
         ensures { LooksOn self.old bytes.now self.new result }
     {
@@ -95,14 +95,14 @@ impl PartialAnswer {
         }
     }
 
-    /// Passes the body over.
+    /// Passes over the body, for the reason `why`.
     pub fn pass(&mut self, why: Ignored)
         ensures { self.new ≡ passed why }
     {
         self.phase = AnswerPhase::Passed(why);
     }
 
-    /// Takes the body that a head announces from now on, for what is asked for.
+    /// Begins to take the body that `head` announces, by this `case`. `span` is asked for.
     pub fn follow(&mut self, head: Head, case: Case, span: Span)
         requires fits { FitsFile (announced head) }
         requires few { IsFew span }
@@ -112,7 +112,8 @@ impl PartialAnswer {
         self.phase = AnswerPhase::Follows(head, case, body);
     }
 
-    /// Takes the next bytes of the body, if it is taken, and stores the blocks that become whole.
+    /// Takes the next bytes of the body, if it is taken, and stores the blocks that become whole. Fails with `Memory`
+    /// alone.
     pub fn take(&mut self, cache: &mut Cache, bytes: &[u8]) -> Result<(), Memory>
         ensures ok { OnOk result (TakesBytes self.old cache.old bytes.now self.new cache.new) }
         ensures err { OnErr result (StopsInBytes self.old cache.old bytes.now cache.new) }
@@ -124,7 +125,7 @@ impl PartialAnswer {
         }
     }
 
-    /// What is told of the answer, if it ends here.
+    /// Returns what the answer did, if it ends here.
     pub fn told(&self) -> Delivered
         ensures { IsTold self.now result }
     {
@@ -142,7 +143,7 @@ impl PartialAnswer {
         }
     }
 
-    /// It keeps no more than a head and a block.
+    /// Does nothing: its contract says that no more than a head and a block is kept.
     pub fn is_bounded(&self)
         ensures { IsBounded self.now }
     {

@@ -11,16 +11,18 @@ use http_range::Tag;
 use std::alloc::Global;
 use tiff_dir::Query;
 
-/// The answer to a query of a file, and the tag under which the file was published.
+/// The answer to a query of a file, with the ETag of the representation that it is true of.
 #[derive(Debug, Drop)]
 pub struct Report {
+    /// The query that it answers.
     pub query: Query,
-    /// The entity tag (RFC 9110, section 8.8.3).
+    /// The ETag (RFC 9110, section 8.8.3).
     pub tag: Tag,
+    /// The answer.
     pub outcome: Outcome,
 }
 
-/// An equal value of a key.
+/// Returns an equal value of a key.
 fn copy_value(alloc: Global, value: &KeyValue) -> Result<KeyValue, Memory>
     ensures { IfOk result (λ v. content_of v ≡ content_of value.now) }
 {
@@ -31,7 +33,7 @@ fn copy_value(alloc: Global, value: &KeyValue) -> Result<KeyValue, Memory>
     }
 }
 
-/// Equal keys.
+/// Returns equal keys.
 fn copy_geo(alloc: Global, geo: &Geo) -> Result<Geo, Memory>
     ensures { IfOk result (λ g. (g.minor ≡ geo.now.minor) × (contents g.keys.items ≡ contents geo.now.keys.items)) }
 {
@@ -46,7 +48,7 @@ fn copy_geo(alloc: Global, geo: &Geo) -> Result<Geo, Memory>
     })
 }
 
-/// Equal items of a geo field.
+/// Returns equal items of a geo field.
 fn copy_items(alloc: Global, items: &Option<Vec<[u8; 8]>>) -> Result<Option<Vec<[u8; 8]>>, Memory>
     ensures { IfOk result (λ o. items_in o ≡ items_in items.now) }
 {
@@ -56,7 +58,7 @@ fn copy_items(alloc: Global, items: &Option<Vec<[u8; 8]>>) -> Result<Option<Vec<
     }
 }
 
-/// What Info says, again.
+/// Returns an `Info` that says the same.
 fn copy_info(alloc: Global, info: &Info) -> Result<Info, Memory>
     ensures { IfOk result (λ i. said_of (outcomes.Info i) ≡ said_of (outcomes.Info info.now)) }
 {
@@ -74,7 +76,7 @@ fn copy_info(alloc: Global, info: &Info) -> Result<Info, Memory>
     })
 }
 
-/// An equal window.
+/// Returns an equal window.
 fn copy_window(alloc: Global, window: &Window) -> Result<Window, Memory>
     ensures { IfOk result (λ w. said_of (outcomes.Window w) ≡ said_of (outcomes.Window window.now)) }
 {
@@ -88,7 +90,7 @@ fn copy_window(alloc: Global, window: &Window) -> Result<Window, Memory>
     })
 }
 
-/// An equal outcome.
+/// Returns an equal outcome.
 fn copy_outcome(alloc: Global, outcome: &Outcome) -> Result<Outcome, Memory>
     ensures { IfOk result (λ o. said_of o ≡ said_of outcome.now) }
 {
@@ -103,7 +105,7 @@ impl Report {
     ghost use Rattle.std.specs.Prelude.{◌≡◌, IfOk};
     ghost use Rattle.cog_client.specs.Report.{told};
 
-    /// An equal report. `Memory` is the only error.
+    /// Returns an equal report. Fails with `Memory` alone.
     pub fn copy(&self, alloc: Global) -> Result<Report, Memory>
         ensures { IfOk result (λ report. told report ≡ told self.now) }
     {

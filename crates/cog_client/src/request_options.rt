@@ -1,13 +1,13 @@
 //! How a client asks.
 
-/// No request of a client has more bytes (own).
+/// The most bytes of a client's request. The limit is our own.
 pub const REQUEST_LIMIT: usize = 1024;
 
-/// How a client asks, beside what for.
+/// How a client asks, apart from what it asks for.
 #[derive(Clone, Copy)]
 pub struct RequestOptions {
-    /// Its requests ask that the connection end with the answer.
+    /// Whether requests ask the server to close the connection after the answer.
     pub closes: bool,
-    /// How many blocks they ask for at most that are needed later, behind what is missing of the range that is needed next.
+    /// The most blocks that a request asks for beyond the missing ones of the next range. They are needed later.
     pub ahead: u32,
 }

@@ -8,11 +8,13 @@ use tiff_dir::Query;
 /// The revision of the file that is read.
 #[derive(Drop)]
 pub struct RevisionReader {
+    /// The ETag of the revision.
     pub tag: Tag,
     /// The length of the file in bytes.
     pub complete: u64,
+    /// What is known of the file.
     pub reader: Reader,
-    /// Room for bytes that have to stand in one piece for the reader: one range at most.
+    /// The buffer for bytes that the reader needs in one piece: one range at most.
     pub buffer: Vec<u8>,
 }
 
@@ -21,8 +23,8 @@ impl RevisionReader {
     ghost use Rattle.cog_reader.specs.Reader.{file_length_of, query_of, tiles_of, ReaderAgrees};
     ghost use Rattle.cog_client.specs.Steps.{Concludes};
 
-    /// The head's revision, of which nothing is known yet. It is asked the query, if there is one, and may keep so many bytes of
-    /// unpacked tiles.
+    /// Makes the reader of the revision of `head`, of which nothing is known yet. It is asked `query`, if there is one.
+    /// It keeps at most `tile_cache_bytes` bytes of unpacked tiles.
     pub fn new(
         alloc: Global,
         head: &Head,
@@ -50,7 +52,8 @@ impl RevisionReader {
         }
     }
 
-    /// The report of what the reader answers to the query, if it does. The reader is asked nothing then.
+    /// Moves the outcome, if there is one, out of the reader and returns it as the report to `query`. Then the reader
+    /// has no query.
     pub fn conclude(&mut self, query: Query) -> Option<Report>
         ensures { Concludes query self.old result self.new }
     {

@@ -1,4 +1,4 @@
-//! What carries a client's requests, and brings the answers.
+//! The trait of what carries a client's requests, and brings the answers.
 ghost use Rattle.std.specs.Prelude.{◌≡◌, ◌+◌, ◌<◌, ◌^◌, ℕ, Bool, true, IfOk, IsTrue, List, OnErr, OnOk, Option, Some, None};
 ghost use Rattle.http_range.specs.Book.{Book};
 ghost use Rattle.cog_client.specs.Transport.{AnswersOn, Anything, IsTrueToAll, SpeaksOn};
@@ -12,20 +12,21 @@ pub struct Lost;
 
 /// Carries requests to a server, and brings its answers, whole or cut, or none.
 pub trait Transport {
-    /// It speaks for this book: each piece of a file that is read of what it brings is of a publication of it, by its
-    /// tag, length and bytes.
+    /// States that it speaks for this book. Each piece of a file that is read of what it brings is of a publication in
+    /// the book, by ETag, length and bytes.
     ghost speaks_for: { Self → Book → Type 0 };
 
-    /// This may come of this request: Some of a text of its answer, None where that is lost. One that leaves this out says nothing of it.
+    /// States that this may come of this request: `Some` of the text of an answer, or `None` where the answer is lost.
+    /// An implementation that leaves this out states nothing.
     ghost answers: { Self → List ℕ → Option (List ℕ) → Type 0 } = { λ _. Anything };
 
-    /// An answer was lost so far, or may have been. One that leaves this out says nothing of it.
+    /// States that an answer was lost so far, or may have been. An implementation that leaves this out states nothing.
     ghost has_lost: { Self → Bool } = { λ _. true };
 
-    /// The exchanges so far.
+    /// Counts the exchanges so far.
     ghost count: { Self → ℕ };
 
-    /// One exchange: sends a request, and gives what came of its answer.
+    /// Makes one exchange: sends a request, and returns what came of its answer. Fails with `Lost` where none came.
     fn exchange(&mut self, request: &[u8]) -> Result<Vec<u8>, Lost>
         requires { count self.old + 1 < 2 ^ 64 }
         ensures answered { IfOk result (λ text. answers self.old request.now (Some text.items)) }
@@ -37,7 +38,7 @@ pub trait Transport {
         ensures speaks { SpeaksOn (speaks_for self.old) (speaks_for self.new) }
         ensures counted { count self.new ≡ count self.old + 1 };
 
-    /// How many exchanges there were, those that brought nothing too.
+    /// Returns how many exchanges there were, with those that brought nothing.
     fn exchanges(&self) -> u64
         ensures { result ≡ count self.now };
 }

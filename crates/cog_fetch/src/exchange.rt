@@ -1,4 +1,4 @@
-//! One exchange: a request is sent, and what comes of its answer is taken.
+//! One exchange: a request is sent, and the client takes what comes of its answer.
 ghost use Rattle.std.specs.Prelude.{◌≡◌, ◌+◌, ◌<◌, ◌^◌, ℕ, Bool, true, IsTrue, List, OnErr, OnOk, Option};
 ghost use Rattle.http_range.specs.Book.{Book};
 ghost use Rattle.cog_client.specs.Transport.{AnswersOn, KeepsReading, OrLost, SpeaksOn, TakesOrLoses, UnlessTold};
@@ -7,22 +7,24 @@ ghost use Rattle.cog_fetch.specs.Takes.{StopsWithin, TakenOf};
 use crate::taking::take_answer;
 use cog_client::{Client, FetchError, Lost, Memory, Pieces, Transport};
 
-/// How a request is sent to a source, and what comes of its answer taken.
+/// Sends a request to a source, and gives the client what comes of its answer.
 pub(crate) trait Exchange<S> {
-    /// It speaks for this book: each piece of a file that is read of what it brings is of a publication of it, by its
-    /// tag, length and bytes.
+    /// States that the source speaks for this book. Each piece of a file that is read of what it brings is of a
+    /// publication in the book, by ETag, length and bytes.
     ghost speaks_for: { S → Book → Type 0 };
 
-    /// This may come of this request: Some of a text of its answer, None where that is lost. The Bool says whether a loss is told by then.
+    /// States that this may come of this request: `Some` of the text of an answer, or `None` where the answer is lost.
+    /// The Bool says whether a loss is reported by then.
     ghost came: { S → Bool → List ℕ → Option (List ℕ) → Type 0 };
 
-    /// An answer was lost so far, or may have been.
+    /// States whether an answer was lost so far, or may have been.
     ghost has_lost: { S → Bool };
 
-    /// The exchanges so far.
+    /// Counts the exchanges so far.
     ghost count: { S → ℕ };
 
-    /// Sends a request, and takes what comes of its answer. At most so many exchanges follow.
+    /// Sends a request, and gives the client what comes of its answer. At most `later` exchanges follow. Fails with
+    /// `Memory` alone.
     fn exchange(
         client: &mut Client,
         source: &mut S,
@@ -37,7 +39,7 @@ pub(crate) trait Exchange<S> {
         ensures goes_on { (lost : Bool) → AnswersOn (came source.old lost) (came source.new lost) }
         ensures counted { count source.new ≡ count source.old + 1 };
 
-    /// A law: what came where no loss is told might have come where one is.
+    /// Does nothing: its contract is a law. What came where no loss is reported might have come where one is.
     fn more()
         ensures { (s : S) (told tells : Bool) → (IsTrue told → IsTrue tells) → AnswersOn (came s tells) (came s told) };
 }
@@ -72,10 +74,11 @@ impl<T: Transport> Exchange<T> for Whole {
     fn more() {}
 }
 
-/// The most requests that a source is told of at once.
+/// The most requests that a source is given before their turn.
 const MOST_EARLY: u32 = 8;
 
-/// Tells a source what the client is likely to ask next, in so many requests at most. Without memory it isn't told.
+/// Gives the source the requests that the client is likely to make next, at most `later`. Fails with `Memory` alone.
+/// Then the source gets none.
 fn foresee<P: Pieces>(client: &Client, source: &mut P, later: u32) -> Result<(), Memory>
     ensures rest { P.rest source.new ≡ P.rest source.old }
     ensures kept { P.has_lost source.new ≡ P.has_lost source.old }
@@ -88,7 +91,7 @@ fn foresee<P: Pieces>(client: &Client, source: &mut P, later: u32) -> Result<(),
     Ok(())
 }
 
-/// An answer comes in pieces, as it arrives. The source is told what is likely to be asked next.
+/// An answer comes in pieces, as it arrives. The source is given the requests that are likely to follow.
 pub(crate) struct InPieces;
 
 impl<P: Pieces> Exchange<P> for InPieces {

@@ -1,4 +1,4 @@
-//! Fetching: a client's requests over a transport or a source of answers in pieces, until its report stands.
+//! Fetching: a client's requests are sent and their answers taken, until its report stands.
 ghost use Rattle.std.specs.Prelude.{◌≡◌, ◌+◌, ◌<◌, ◌≤◌, ◌^◌, ◌⊎◌, IfOk, IfSome, IsSome, IsTrue, OnErr, OnOk, Bool, true, false};
 ghost use Rattle.std.specs.Prelude.{if◌then◌else◌, option_copied};
 ghost use Rattle.std.specs.Borrow.{sem};
@@ -18,7 +18,8 @@ use crate::exchange::{Exchange, InPieces, Whole};
 use cog_client::{Client, FetchError, Pieces, Report, Transport, law_whole_answers_report};
 use http_range::law_fronts_are_read;
 
-/// One exchange, if the client has a request. Says whether it had one. At most so many follow.
+/// Makes one exchange, if the client has a request, and returns whether it had one. At most `later` exchanges follow.
+/// Fails with `Memory` alone.
 fn exchange_once<S, E: Exchange<S>>(
     client: &mut Client,
     source: &mut S,
@@ -46,7 +47,7 @@ fn exchange_once<S, E: Exchange<S>>(
     Ok(true)
 }
 
-/// So many exchanges, or fewer where the client has no request any more.
+/// Makes `tries` exchanges, or fewer where the client has no request any more. Fails with `Memory` alone.
 fn exchange_up_to<S, E: Exchange<S>>(
     client: &mut Client,
     source: &mut S,
@@ -73,9 +74,9 @@ fn exchange_up_to<S, E: Exchange<S>>(
     Ok(())
 }
 
-/// Sends the client's requests over a transport and delivers what comes of the answers, until a report stands, in at
-/// most `tries` exchanges, those that bring nothing included. Gives the report, if one stands. Want of memory (`Memory`,
-/// the only error) ends it, and the client can go on from there.
+/// Sends the client's requests over a transport, and gives it what comes of the answers, until a report stands. Makes
+/// at most `tries` exchanges, and counts those that bring nothing, too. Returns the report, or `None` where none
+/// stands. Fails with `Memory` alone, and the client can go on from there.
 pub fn fetch<'c, T: Transport>(
     client: &'c mut Client,
     transport: &mut T,
@@ -83,11 +84,11 @@ pub fn fetch<'c, T: Transport>(
 ) -> Result<Option<&'c Report>, FetchError>
     requires { T.count transport.old + tries < 2 ^ 64 }
 
-    // A client that reads a book for which the transport speaks reads it still, whatever was lost or cut, and after
-    // want of memory too. What is given is its standing report. It was asked for its request, and what came of the
-    // answer was taken, as often as the transport counts, and nothing else was done to it; none was lost unless the
-    // transport tells so. Want of memory came in the last of some such exchanges, of whose number and losses nothing is
-    // said.
+    // A client that reads a book for which the transport speaks still reads it afterwards. This holds whatever was lost
+    // or cut, and after `Memory`, too. The report that is returned is the client's standing one. The client was asked
+    // for its request, and took what came of the answer, as often as the transport counts. Nothing else was done to it.
+    // No answer was lost unless the transport reports it. `Memory` came in the last of some such exchanges. Nothing is
+    // said of their number, and of losses in them.
     ensures* client { sem 𝓛 (Rests the_row client.entry (λ c.
         KeepsReading (T.speaks_for transport.old) (T.speaks_for transport.new) client.old c
         × IfOk result (λ report. Stands c (option_copied report)
@@ -95,28 +96,30 @@ pub fn fetch<'c, T: Transport>(
         (T.answers transport.old)) (T.count transport.old) (T.count transport.new) client.old c)
         × OnErr result (StopsFetching (T.answers transport.old) client.old c))) }
 
-    // A report is true of one publication of that book: of the one whose tag it tells.
+    // A report is true of one publication of that book: the one whose ETag it has.
     ensures report { IfOk result (λ report.
         IfSome (option_copied report) (IsTrueOfBooks (T.speaks_for transport.old) client.old)) }
 
-    // There is none only after so many exchanges, or without a query.
+    // There is none only after `tries` exchanges, or without a query.
     ensures none { IfOk result (λ report. report ≡ None
         → IsInVain (query_of client.old) tries (T.count transport.old) (T.count transport.new)) }
 
-    // Where the transport lost nothing, and brings answers of one publication alone that have all that is asked for, or
-    // the whole file, there is one behind an opening by as many exchanges as the query costs, and one more.
+    // There is one after an opening, on these conditions. The client agreed with a book, of which no two publications
+    // have one ETag. The transport lost nothing. It brings answers of one publication of that book alone, under the
+    // client's name, and each has all that is asked for, or the whole file. `tries` is at least what the query costs,
+    // and one more.
     ensures reports { (book : Book) (p : Publication) (q : Query) (before : ClientState) → HasDistinctTags book → In p book
         → p.name ≡ name_of before
         → ClientAgrees before book → OpensKeeping q before client.old → Serves (T.answers transport.old) p
         → T.has_lost transport.new ≡ false
         → cost p.file q + 1 ≤ tries → IfOk result (λ report. IsSome (option_copied report)) }
 
-    // What was lost is told from then on, and what may come later might have come now.
+    // A loss stays reported, and what may come later might have come now.
     ensures told { IsTrue (T.has_lost transport.old) → IsTrue (T.has_lost transport.new) }
     ensures goes_on { AnswersOn (T.answers transport.old) (T.answers transport.new) }
     ensures few { T.count transport.new ≤ T.count transport.old + tries }
 
-    // Where there is no query, or the report stands already, nothing is sent, and that report is given.
+    // Where there is no query, or the report stands already, nothing is sent, and that report is returned.
     ensures idle { IsIdle client.old → T.count transport.new ≡ T.count transport.old }
     ensures stands { IsSome (report_of client.old)
         → IfOk result (λ report. option_copied report ≡ report_of client.old) }
@@ -127,10 +130,10 @@ pub fn fetch<'c, T: Transport>(
     Ok(client.report())
 }
 
-/// Sends the client's requests to a source and feeds it what comes of the answers, piece by piece, until a report stands, in at
-/// most `tries` exchanges, those that bring nothing included. An answer is taken to its end, to a loss, or to `ANSWER_LIMIT`
-/// bytes, in pieces of at most `PIECE_ROOM`. Gives the report, if one stands. Want of memory (`Memory`, the only error) ends it,
-/// and the client can go on from there.
+/// Sends the client's requests to a source, and feeds it what comes of the answers, piece by piece, until a report
+/// stands. Makes at most `tries` exchanges, and counts those that bring nothing, too. An answer is taken to its end, to
+/// a loss, or up to `ANSWER_LIMIT` bytes, in pieces of at most `PIECE_ROOM` bytes. Returns the report, or `None` where
+/// none stands. Fails with `Memory` alone, and the client can go on from there.
 pub fn fetch_pieces<'c, P: Pieces>(
     client: &'c mut Client,
     pieces: &mut P,
@@ -138,11 +141,11 @@ pub fn fetch_pieces<'c, P: Pieces>(
 ) -> Result<Option<&'c Report>, FetchError>
     requires { P.count pieces.old + tries < 2 ^ 64 }
 
-    // A client that reads a book for which the source speaks reads it still, whatever was lost or cut, and after want
-    // of memory too. What is given is its standing report. It was asked for its request, and what came of the answer
-    // was taken, as often as the source counts, and nothing else was done to it; where the source speaks for any book
-    // all of each answer up to `ANSWER_LIMIT` bytes, unless it lost one, or the rest of one, and tells so. Want of
-    // memory came in the last of some such exchanges, of whose number and losses nothing is said.
+    // A client that reads a book for which the source speaks still reads it afterwards. This holds whatever was lost or
+    // cut, and after `Memory`, too. The report that is returned is the client's standing one. The client was asked for
+    // its request, and took what came of the answer, as often as the source counts. Nothing else was done to it. Where
+    // the source speaks for any book, and reports no loss, each answer was taken whole, up to `ANSWER_LIMIT` bytes.
+    // `Memory` came in the last of some such exchanges. Nothing is said of their number, and of losses in them.
     ensures* client { sem 𝓛 (Rests the_row client.entry (λ c.
         KeepsReading (P.speaks_for pieces.old) (P.speaks_for pieces.new) client.old c
         × IfOk result (λ report. Stands c (option_copied report)
@@ -150,29 +153,31 @@ pub fn fetch_pieces<'c, P: Pieces>(
         (P.has_lost pieces.new)) (P.count pieces.old) (P.count pieces.new) client.old c)
         × OnErr result (StopsFetching (TakenOf (P.speaks_for pieces.old) (P.answers pieces.old) true) client.old c))) }
 
-    // A report is true of one publication of that book: of the one whose tag it tells.
+    // A report is true of one publication of that book: the one whose ETag it has.
     ensures report { IfOk result (λ report.
         IfSome (option_copied report) (IsTrueOfBooks (P.speaks_for pieces.old) client.old)) }
 
-    // There is none only after so many exchanges, or without a query.
+    // There is none only after `tries` exchanges, or without a query.
     ensures none { IfOk result (λ report. report ≡ None
         → IsInVain (query_of client.old) tries (P.count pieces.old) (P.count pieces.new)) }
 
-    // Where the source lost nothing, and brings answers of one publication alone that have all that is asked for, or the whole file, in so
-    // many bytes as are taken, there is one behind an opening by as many exchanges as the query costs, and one more.
+    // There is one after an opening, on these conditions. The client agreed with a book for which the source speaks, and
+    // of which no two publications have one ETag. The source lost nothing. It brings answers of one publication of that
+    // book alone, under the client's name. The first `ANSWER_LIMIT` bytes of each have all that is asked for, or the
+    // whole file. `tries` is at least what the query costs, and one more.
     ensures reports { (book : Book) (p : Publication) (q : Query) (before : ClientState) → HasDistinctTags book → In p book
         → p.name ≡ name_of before
         → ClientAgrees before book → P.speaks_for pieces.old book → OpensKeeping q before client.old
         → Serves (AllOf (P.answers pieces.old)) p
         → P.has_lost pieces.new ≡ false → cost p.file q + 1 ≤ tries → IfOk result (λ report. IsSome (option_copied report)) }
 
-    // What was lost is told from then on, and what is taken later might have been taken now.
+    // A loss stays reported, and what is taken later might have been taken now.
     ensures told { IsTrue (P.has_lost pieces.old) → IsTrue (P.has_lost pieces.new) }
     ensures goes_on { (lost : Bool) → AnswersOn (TakenOf (P.speaks_for pieces.old) (P.answers pieces.old) lost)
         (TakenOf (P.speaks_for pieces.new) (P.answers pieces.new) lost) }
     ensures few { P.count pieces.new ≤ P.count pieces.old + tries }
 
-    // Where there is no query, or the report stands already, nothing is sent, and that report is given.
+    // Where there is no query, or the report stands already, nothing is sent, and that report is returned.
     ensures idle { IsIdle client.old → P.count pieces.new ≡ P.count pieces.old }
     ensures stands { IsSome (report_of client.old)
         → IfOk result (λ report. option_copied report ≡ report_of client.old) }
@@ -183,9 +188,9 @@ pub fn fetch_pieces<'c, P: Pieces>(
     Ok(client.report())
 }
 
-/// One exchange of `fetch_pieces`, if the client has a request, whose answer is taken as there. Says whether it had
-/// one. At most `later` follow: the source may be told of as many requests, which it may send early. `Memory` is the
-/// only error, and the client can go on from there.
+/// Makes one exchange as `fetch_pieces` does, if the client has a request, and returns whether it had one. At most
+/// `later` exchanges follow. The source may be given as many requests before their turn, and may send them early. Fails
+/// with `Memory` alone, and the client can go on from there.
 pub fn exchange_pieces<P: Pieces>(
     client: &mut Client,
     pieces: &mut P,
@@ -197,7 +202,7 @@ pub fn exchange_pieces<P: Pieces>(
         (P.has_lost pieces.new)) asked client.old client.new) }
     ensures stops { OnErr result (StopsOnce (TakenOf (P.speaks_for pieces.old) (P.answers pieces.old) true) client.old client.new) }
 
-    // What was lost is told from then on, and what is taken later might have been taken now.
+    // A loss stays reported, and what is taken later might have been taken now.
     ensures told { IsTrue (P.has_lost pieces.old) → IsTrue (P.has_lost pieces.new) }
     ensures goes_on { (lost : Bool) → AnswersOn (TakenOf (P.speaks_for pieces.old) (P.answers pieces.old) lost)
         (TakenOf (P.speaks_for pieces.new) (P.answers pieces.new) lost) }

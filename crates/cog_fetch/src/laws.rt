@@ -2,7 +2,7 @@
 ghost use Rattle.std.specs.Prelude.{◌≡◌, ◌+◌, ◌*◌};
 ghost use Rattle.cog_fetch.specs.declared.taking.TheConstants.{ANSWER_LIMIT};
 
-/// The most bytes that are taken of an answer: those of a head, 4,096, and of 65 blocks of 16,384.
+/// States the most bytes that are taken of an answer: a head of 4,096, and 65 blocks of 16,384.
 pub fn law_answer_limit_is()
     ensures { ANSWER_LIMIT ≡ 4096 + 65 * 16384 }
 {}

@@ -1,5 +1,5 @@
-//! Fetching: a client's requests over a transport, whose answers come whole, or over a source of answers in pieces, until its
-//! report stands.
+//! Fetches a client's report: sends its requests, and gives it what comes of the answers. Answers come whole over a
+//! transport, or in pieces from a source.
 #![tactic(auto)]
 
 mod exchange;

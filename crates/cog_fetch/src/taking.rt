@@ -1,4 +1,4 @@
-//! A client takes an answer piece by piece, as it arrives.
+//! How a client takes an answer, piece by piece as it arrives.
 ghost use Rattle.std.specs.Prelude.{◌≡◌, ◌<◌, ◌≤◌, ℕ, false, IfOk, IsTrue, List, OnErr, OnOk, length};
 ghost use Rattle.cog_client.specs.declared.delivered.Delivered.{Delivered};
 ghost use Rattle.cog_client.specs.Keeps.{DeliversKeeping, StopsDelivery};
@@ -9,13 +9,14 @@ use cog_client::{Client, Lost, MAX_BLOCKS, Pieces};
 use extents::{BLOCK_SIZE, Memory};
 use http_fields::limits::HEAD_LIMIT;
 
-/// The most bytes of an answer that are taken, 1,069,056: those of a head and of the blocks of one request.
+/// The most bytes of an answer that are taken, 1,069,056. These are a head and the blocks of one request.
 pub const ANSWER_LIMIT: usize = HEAD_LIMIT + MAX_BLOCKS as usize * BLOCK_SIZE as usize;
 
 /// The most bytes of a piece.
 pub const PIECE_ROOM: usize = 16_384;
 
-/// Takes the next piece, of at most as many bytes as there is room for. Says how many: none at the end, or where the rest is lost.
+/// Takes the next piece, of at most as many bytes as `room` has. Returns how many it has, 0 at the end, or where the
+/// rest is lost. Fails with `Memory` alone.
 fn take_piece<P: Pieces>(
     client: &mut Client,
     pieces: &mut P,
@@ -40,7 +41,7 @@ fn take_piece<P: Pieces>(
     }
 }
 
-/// Takes pieces to the end of the answer, to a loss, or to the most bytes of an answer.
+/// Takes pieces up to the end of the answer, to a loss, or to `ANSWER_LIMIT` bytes. Fails with `Memory` alone.
 fn take_pieces<P: Pieces>(client: &mut Client, pieces: &mut P) -> Result<(), Memory>
     ensures ok { OnOk result (TakesAll (P.speaks_for pieces.old) (P.rest pieces.old) (P.has_lost pieces.new) client.old client.new) }
     ensures err { OnErr result (Stops (P.speaks_for pieces.old) (P.rest pieces.old) client.old client.new) }
@@ -62,7 +63,7 @@ fn take_pieces<P: Pieces>(client: &mut Client, pieces: &mut P) -> Result<(), Mem
     Ok(())
 }
 
-/// Takes what comes of the answer to the last request, and goes on with the client.
+/// Takes what comes of the answer to the last request, and goes on with the client. Fails with `Memory` alone.
 pub fn take_answer<P: Pieces>(client: &mut Client, pieces: &mut P) -> Result<(), Memory>
     ensures takes { TakesAnswer (P.speaks_for pieces.old) (P.rest pieces.old) client.old client.new }
     ensures ok { OnOk result ((bytes : List ℕ) × IsTakenOf (P.speaks_for pieces.old) (P.has_lost pieces.new) (P.rest pieces.old) bytes

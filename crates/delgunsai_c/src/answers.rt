@@ -1,4 +1,4 @@
-//! Answers are taken.
+//! Calls that take answers.
 ghost use Rattle.std.specs.Prelude.{◌≡◌, []};
 ghost use Rattle.cog_client.specs.FedClient.{Fed};
 ghost use Rattle.delgunsai_c.specs.Answers.{EndsOr, Reads};
@@ -11,7 +11,7 @@ use crate::said::Said;
 use cog_client::Client;
 use std::alloc::Global;
 
-/// The next bytes of an answer.
+/// Takes the next bytes of an answer. Returns 0 or `COG_MEMORY`.
 fn feed(client: &mut Client, piece: &[u8]) -> i32
     ensures { FeedsOr piece.now result client.old client.new }
 {
@@ -21,7 +21,7 @@ fn feed(client: &mut Client, piece: &[u8]) -> i32
     }
 }
 
-/// The end of an answer, and what the answer did.
+/// Ends an answer, and writes to `said` what it did. Returns 0, or `COG_MEMORY`, and then `said` stays.
 fn end(client: &mut Client, said: &mut Said) -> i32
     ensures { EndsOr said.old said.new result client.old client.new }
 {
@@ -34,7 +34,7 @@ fn end(client: &mut Client, said: &mut Said) -> i32
     }
 }
 
-/// Begins an answer. An unfinished one is dropped.
+/// Begins an answer. An unfinished one is dropped. Returns 0 or `COG_NO_CLIENT`.
 #[unsafe(no_mangle)]
 pub extern "C" fn cog_client_begin(alloc: Global, client: &mut Handle) -> i32
     ensures { Calls (λ s t. Done (Fed s [] t) result) (client_of client.old) (client_of client.new) result }
@@ -47,7 +47,8 @@ pub extern "C" fn cog_client_begin(alloc: Global, client: &mut Handle) -> i32
     0
 }
 
-/// Takes the next bytes of an answer.
+/// Takes the next bytes of an answer, whichever they are. Returns 0, `COG_MEMORY` or `COG_NO_CLIENT`. After `COG_MEMORY` the rest of the
+/// answer is dropped.
 #[unsafe(no_mangle)]
 pub extern "C" fn cog_client_feed(alloc: Global, client: &mut Handle, piece: &[u8]) -> i32
     ensures { Calls (FeedsOr piece.now result) (client_of client.old) (client_of client.new) result }
@@ -60,7 +61,8 @@ pub extern "C" fn cog_client_feed(alloc: Global, client: &mut Handle, piece: &[u
     told
 }
 
-/// Ends an answer, and says what it did.
+/// Ends an answer, whole or cut, and writes to `said` what it did. Returns 0, `COG_MEMORY` or `COG_NO_CLIENT`. Unless it is 0, `said`
+/// stays.
 #[unsafe(no_mangle)]
 pub extern "C" fn cog_client_end(alloc: Global, client: &mut Handle, said: &mut Said) -> i32
     ensures does { Calls (EndsOr said.old said.new result) (client_of client.old) (client_of client.new) result }
@@ -74,7 +76,7 @@ pub extern "C" fn cog_client_end(alloc: Global, client: &mut Handle, said: &mut 
     told
 }
 
-/// Says what the answer to a check, or a front of it, tells.
+/// Writes to `said` what the answer to a check, or a front of it, says of the ETag. Returns 0, or `COG_NO_CLIENT`, and then `said` stays.
 #[unsafe(no_mangle)]
 pub extern "C" fn cog_client_current(
     alloc: Global,

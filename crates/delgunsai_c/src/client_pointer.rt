@@ -1,4 +1,4 @@
-//! A place in the heap, as C holds it.
+//! A pointer to a client in the heap, as C holds it.
 ghost use Rattle.std.specs.Prelude.{◌≡◌, Option, None, Some, IsSome};
 ghost use Rattle.delgunsai_c.specs.declared.held.Held.{Held};
 ghost use Rattle.delgunsai_c.specs.Owned.{inside_coded, owned};
@@ -9,7 +9,7 @@ use std::alloc::Global;
 use std::marker::Model;
 use std::ptr::null_mut;
 
-/// The address of a client in the heap, which it owns, or nothing. C sees the address alone, since an allocator has no bytes.
+/// Owns the client in the heap at its address, or is null. C sees the address alone, since an allocator has no bytes.
 #[repr(C)]
 #[derive(Drop)]
 pub struct ClientPointer {
@@ -23,7 +23,7 @@ impl Model for ClientPointer {
 }
 
 impl ClientPointer {
-    /// The place of nothing.
+    /// Makes the null pointer.
     pub fn none(alloc: Global) -> ClientPointer
         ensures { result.inside ≡ None }
     {
@@ -33,7 +33,7 @@ impl ClientPointer {
         }
     }
 
-    /// The place of a client.
+    /// Makes the pointer that owns the client of these parts.
     pub fn of_parts(parts: RawParts<Held, Global>) -> ClientPointer
         ensures { result.inside ≡ Some parts.value }
     {
@@ -44,7 +44,7 @@ impl ClientPointer {
         }
     }
 
-    /// The client of a place that has one.
+    /// Returns the parts of the client that the pointer owns.
     pub fn into_parts(self) -> RawParts<Held, Global>
         requires { IsSome self.inside }
         ensures { Some result.value ≡ self.inside }

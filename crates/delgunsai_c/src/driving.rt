@@ -1,4 +1,4 @@
-//! A driver moves bytes between a client and its connections.
+//! The call that takes a driver's bytes and returns its next step.
 ghost use Rattle.std.specs.Prelude.{◌≡◌, None, IfOk, OnErr};
 ghost use Rattle.client_dialogue.specs.declared.check.CheckStep.TheVariants.{Checked};
 ghost use Rattle.client_dialogue.specs.declared.step.Step.TheVariants.{Exchanged as AnExchange};
@@ -14,7 +14,7 @@ use cog_client::Current;
 use extents::Memory;
 use std::alloc::Global;
 
-/// What a driver is to do next, in numbers.
+/// Holds what a driver is to do next, in the numbers of `struct delgunsai_step`.
 #[repr(C)]
 #[derive(Clone, Copy, Debug, PartialEq, Eq)]
 pub struct NextStep {
@@ -25,7 +25,7 @@ pub struct NextStep {
     pub alone: u32,
 }
 
-/// Returns the step of a kind alone, for which `taken` bytes were taken.
+/// Returns a step with the number `kind`, for which `taken` bytes were taken. Its other numbers are 0.
 pub fn plain(kind: u32, taken: usize) -> NextStep
     ensures { result ≡ plain kind taken }
 {
@@ -38,7 +38,7 @@ pub fn plain(kind: u32, taken: usize) -> NextStep
     }
 }
 
-/// Returns the step of an exchange that is over.
+/// Returns the step for an exchange that is over.
 fn exchanged(taken: usize, what: Exchanged) -> NextStep
     ensures { result ≡ numbers_of taken (AnExchange what) }
 {
@@ -50,7 +50,7 @@ fn exchanged(taken: usize, what: Exchanged) -> NextStep
     }
 }
 
-/// Returns the step of a check that is over, whose answer has the status code `status`.
+/// Returns the step for a check that is over, whose answer has the status code `status`.
 fn checked(taken: usize, current: Current, status: u16) -> NextStep
     ensures { result ≡ check_numbers_of taken (Checked current) status }
 {
@@ -61,7 +61,7 @@ fn checked(taken: usize, current: Current, status: u16) -> NextStep
     }
 }
 
-/// Returns the step of a dialogue in numbers.
+/// Returns a dialogue's step in numbers, for which `taken` bytes were taken.
 pub fn next_step(taken: usize, step: Step) -> NextStep
     ensures { result ≡ numbers_of taken step }
 {
@@ -76,7 +76,7 @@ pub fn next_step(taken: usize, step: Step) -> NextStep
     }
 }
 
-/// Returns the step of a check in numbers, whose answer has the status code `status`.
+/// Returns a check's step in numbers, for which `taken` bytes were taken. `status` is the status code of the answer.
 fn check_step(taken: usize, step: CheckStep, status: u16) -> NextStep
     ensures { result ≡ check_numbers_of taken step status }
 {
@@ -89,7 +89,7 @@ fn check_step(taken: usize, step: CheckStep, status: u16) -> NextStep
     }
 }
 
-/// Takes bytes of an exchange.
+/// Takes bytes of an exchange, and returns the next step. Fails where no memory is left: the exchange is over then.
 fn exchange(held: &mut Held, bytes: &[u8]) -> Result<NextStep, Memory>
     requires { held.old.check ≡ None }
     ensures ok { IfOk result (λ step. DrivesBy held.old.check bytes.now step held.old held.new) }
@@ -99,7 +99,8 @@ fn exchange(held: &mut Held, bytes: &[u8]) -> Result<NextStep, Memory>
     Ok(next_step(progress.count, progress.step))
 }
 
-/// Takes bytes, and says what is to be done next.
+/// Takes bytes of the check that is under way, or else of an exchange, and returns the next step. Fails where no memory is left: the check
+/// or the exchange is over then.
 fn go_on(held: &mut Held, bytes: &[u8]) -> Result<NextStep, Memory>
     ensures ok { IfOk result (λ step. DrivesBy held.old.check bytes.now step held.old held.new) }
     ensures err { OnErr result (FailsBy held.old.check held.old held.new) }
@@ -116,7 +117,7 @@ fn go_on(held: &mut Held, bytes: &[u8]) -> Result<NextStep, Memory>
     Ok(check_step(progress.count, progress.step, status))
 }
 
-/// Lays the step into a caller's room, and returns the number that says whether there was one.
+/// Writes a step to the caller's `step`, and returns 0. Returns `COG_MEMORY` where `gone_on` is an error, and then `step` stays.
 pub fn lay_step(gone_on: Result<NextStep, Memory>, step: &mut NextStep) -> i32
     ensures { TellsStep gone_on step.old step.new result }
 {
@@ -129,7 +130,7 @@ pub fn lay_step(gone_on: Result<NextStep, Memory>, step: &mut NextStep) -> i32
     }
 }
 
-/// Takes bytes that came, and says what is to be done next.
+/// Takes bytes that came, and writes to `step` what to do next. Returns 0, `COG_MEMORY` or `COG_NO_CLIENT`. Unless it is 0, `step` stays.
 #[unsafe(no_mangle)]
 pub extern "C" fn delgunsai_client_go_on(
     alloc: Global,

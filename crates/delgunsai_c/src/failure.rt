@@ -1,10 +1,10 @@
-//! Why a call gives no answer.
+//! The failures of calls, which the header numbers.
 ghost use Rattle.std.specs.Prelude.{◌≡◌};
 ghost use Rattle.delgunsai_c.specs.Failure.{failure_in};
 
 use cog_client::ClientError;
 
-/// Why a call gives no answer: the negative numbers of the header.
+/// Says why a call gives no answer. Each has a negative number in the header.
 #[derive(Clone, Copy, Debug, PartialEq, Eq)]
 pub enum Failure {
     /// The host isn't 1 to 64 letters, digits, `.`, `-`, `:`.
@@ -28,7 +28,7 @@ pub enum Failure {
 impl Failure {
     ghost use Rattle.delgunsai_c.specs.Failure.{code_of};
 
-    /// The negative number.
+    /// Returns the negative number in the header.
     pub fn code(self) -> i32
         ensures { result ≡ code_of self }
     {
@@ -45,7 +45,7 @@ impl Failure {
     }
 }
 
-/// Why a client isn't made.
+/// Returns the failure for an error of making a client.
 pub fn failure_of(error: &ClientError) -> Failure
     ensures { result ≡ failure_in error.now }
 {

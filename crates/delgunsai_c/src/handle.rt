@@ -1,4 +1,4 @@
-//! What C holds of a client.
+//! The handle in which C holds a client.
 ghost use Rattle.std.specs.Prelude.{◌≡◌, ◌↔◌, None, Some, IfSome, IsSome, IsTrue};
 
 use crate::client_pointer::ClientPointer;
@@ -6,7 +6,7 @@ use crate::held::Held;
 use crate::parts::RawParts;
 use std::alloc::Global;
 
-/// A client in the heap, or none. C makes one of zeros, which has none.
+/// Holds a client in the heap, or none. C makes a handle of zeros, which has none.
 #[repr(C)]
 #[derive(Drop)]
 pub struct Handle {
@@ -18,7 +18,7 @@ pub struct Handle {
 impl Handle {
     ghost use Rattle.delgunsai_c.specs.Handle.{client_of, held_of};
 
-    /// A handle without a client.
+    /// Makes a handle without a client.
     fn empty(alloc: Global) -> Handle
         ensures { client_of result ≡ None }
     {
@@ -28,7 +28,7 @@ impl Handle {
         }
     }
 
-    /// Takes the client out, which leaves none.
+    /// Takes the client out, or returns `None` where there is none. The handle then has none.
     pub fn take(&mut self, alloc: Global) -> Option<Box<Held>>
         ensures left { client_of self.new ≡ None }
         ensures some { IfSome result (λ b. client_of self.old ≡ Some b.value.client) }

@@ -5,18 +5,18 @@ ghost use Rattle.client_dialogue.specs.Goes.{BeginsAnew};
 use client_dialogue::{Check, Dialogue};
 use cog_client::Client;
 
-/// A client, its exchanges over connections, and the check that is under way.
+/// Holds a client, its exchanges over connections, and the check that is under way.
 #[derive(Drop)]
 pub struct Held {
     pub client: Client,
     pub dialogue: Dialogue,
     pub check: Option<Check>,
-    /// How many exchanges a query may take.
+    /// The most exchanges that a query may take.
     pub exchanges: u32,
 }
 
 impl Held {
-    /// Begins a query: what is under way is dropped with its connection.
+    /// Begins a query. What is under way is dropped with its connection.
     pub fn begin_query(&mut self)
         ensures client { self.new.client ≡ self.old.client }
         ensures check { self.new.check ≡ None }

@@ -1,9 +1,8 @@
-//! A text in a caller's room.
+//! Texts that are copied to a room: memory of the caller.
 ghost use Rattle.delgunsai_c.specs.Laid.{Lays};
 ghost use Rattle.delgunsai_c.specs.Moving.{LaysFront};
 
-/// Lays a text into the front of a caller's room, if there is room for it, and says how long it is, which is the room that is
-/// wanted.
+/// Copies a text to the front of `room`, or nothing where the text is longer than the room. Returns the text's length in bytes either way.
 pub fn lay(text: &[u8], room: &mut [u8]) -> i64
     ensures { Lays text.now room.old room.new result }
 {
@@ -13,7 +12,7 @@ pub fn lay(text: &[u8], room: &mut [u8]) -> i64
     text.len() as i64
 }
 
-/// Lays as much of the front of a text into a caller's room as it has place for, and says how long the text is.
+/// Copies as many of a text's first bytes to `room` as it holds. Returns the length of the whole text in bytes.
 pub fn lay_front(text: &[u8], room: &mut [u8]) -> i64
     ensures { LaysFront text.now room.old room.new result }
 {

@@ -1,4 +1,4 @@
-//! The client's core for C: an export for each call of a client. `include/delgunsai.h` says what each takes and gives.
+//! Exports the client's core for C, a function for each call. `include/delgunsai.h` says what each takes and returns.
 #![tactic(auto)]
 
 mod answers;

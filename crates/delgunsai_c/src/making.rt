@@ -1,4 +1,4 @@
-//! A client is made, forgets, and is freed.
+//! Calls that make, clear and free a client.
 ghost use Rattle.std.specs.Prelude.{◌≡◌, None, IfErr, IfOk, IfSome};
 ghost use Rattle.delgunsai_c.specs.Calls.{Calls, Done, IsRefusal, News};
 ghost use Rattle.delgunsai_c.specs.Handle.{client_of};
@@ -11,13 +11,13 @@ use client_dialogue::Dialogue;
 use cog_client::Client;
 use std::alloc::Global;
 
-/// The exchanges that a query may take, unless the caller says another number.
+/// The most exchanges that a query may take, unless the caller sets another number.
 const EXCHANGES: u32 = 65_536;
 
-/// How many requests are sent early.
+/// The most requests that are sent early.
 const EARLY: u32 = 8;
 
-/// A client in the heap, or none without memory.
+/// Puts a client in the heap, or returns `None` where no memory is left.
 fn in_heap(alloc: Global, client: Client) -> Option<Box<Held>>
     ensures { IfSome result (λ b. b.value.client ≡ client) }
 {
@@ -31,7 +31,7 @@ fn in_heap(alloc: Global, client: Client) -> Option<Box<Held>>
     Box::new(alloc, held).ok()
 }
 
-/// A client in the heap.
+/// Makes a client in the heap. Fails with the first of `Host`, `Name` and `Blocks` that applies, or with `Memory`.
 fn boxed(alloc: Global, host: &[u8], name: &[u8], blocks: u32) -> Result<Box<Held>, Failure>
     ensures made { IfOk result (λ b. Starts host.now name.now blocks b.value.client) }
     ensures refused { IfErr result (IsRefusal host.now name.now blocks) }
@@ -45,7 +45,8 @@ fn boxed(alloc: Global, host: &[u8], name: &[u8], blocks: u32) -> Result<Box<Hel
     }
 }
 
-/// Makes a client, in the place of the one before.
+/// Makes a client in a handle, and frees the one before. Returns 0, `COG_HOST`, `COG_NAME`, `COG_BLOCKS` or `COG_MEMORY`. Unless it is 0,
+/// the handle stays as it was.
 #[unsafe(no_mangle)]
 pub extern "C" fn cog_client_new(
     alloc: Global,
@@ -66,7 +67,7 @@ pub extern "C" fn cog_client_new(
     }
 }
 
-/// Drops everything but host, name, query, and how it asks.
+/// Drops the report and all that is known of the file. Host, name, query, and how the client asks, stay. Returns 0 or `COG_NO_CLIENT`.
 #[unsafe(no_mangle)]
 pub extern "C" fn cog_client_forget(alloc: Global, client: &mut Handle) -> i32
     ensures { Calls (λ s t. Done (Forgets s t) result) (client_of client.old) (client_of client.new) result }
@@ -80,7 +81,7 @@ pub extern "C" fn cog_client_forget(alloc: Global, client: &mut Handle) -> i32
     0
 }
 
-/// Frees the client, which leaves none.
+/// Frees the client of a handle, which then has none.
 #[unsafe(no_mangle)]
 pub extern "C" fn cog_client_free(alloc: Global, client: &mut Handle)
     ensures { client_of client.new ≡ None }

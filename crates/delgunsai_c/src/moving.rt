@@ -1,4 +1,4 @@
-//! A driver notes what became of its connection.
+//! Calls that note what became of a driver's bytes and of its connection.
 ghost use Rattle.std.specs.Prelude.{◌≡◌, None};
 ghost use Rattle.delgunsai_c.specs.Driving.{Drives};
 ghost use Rattle.delgunsai_c.specs.Handle.{held_of};
@@ -23,7 +23,7 @@ fn waiting(held: &Held) -> &[u8]
     }
 }
 
-/// Lays the first of the bytes that are to be written into a caller's room, and says how many there are.
+/// Copies the first bytes that are to be written to `room`, as many as it holds. Returns how many there are in all, or `COG_NO_CLIENT`.
 #[unsafe(no_mangle)]
 pub extern "C" fn delgunsai_client_waiting(
     alloc: Global,
@@ -41,7 +41,7 @@ pub extern "C" fn delgunsai_client_waiting(
     told
 }
 
-/// Notes that bytes which waited were written.
+/// Notes that the first `count` bytes that waited were written. Returns 0, or `COG_ORDER` where fewer wait or no connection is in use.
 fn wrote(held: &mut Held, count: usize) -> i32
     ensures { Writes count result held.old held.new }
 {
@@ -60,7 +60,7 @@ fn wrote(held: &mut Held, count: usize) -> i32
     0
 }
 
-/// Notes that the first bytes that waited were written.
+/// Notes that the first `count` bytes that waited were written. Returns 0, `COG_ORDER` or `COG_NO_CLIENT`.
 #[unsafe(no_mangle)]
 pub extern "C" fn delgunsai_client_wrote(alloc: Global, client: &mut Handle, count: usize) -> i32
     ensures { Drives (Writes count result) (held_of client.old) (held_of client.new) result }
@@ -73,7 +73,7 @@ pub extern "C" fn delgunsai_client_wrote(alloc: Global, client: &mut Handle, cou
     told
 }
 
-/// Notes that the new connection of a check is there.
+/// Notes that the new connection of a check is there. Returns 0, `COG_ORDER` where one was there, or `COG_MEMORY`.
 fn check_connected(check: &mut Check) -> i32
     ensures { OpensCheck result check.old check.new }
 {
@@ -86,7 +86,7 @@ fn check_connected(check: &mut Check) -> i32
     }
 }
 
-/// Notes that the new connection of an exchange is there.
+/// Notes that the new connection of an exchange is there. Returns 0, `COG_ORDER` where no exchange is under way, or `COG_MEMORY`.
 fn exchange_connected(held: &mut Held) -> i32
     requires { held.old.check ≡ None }
     ensures { Connects result held.old held.new }
@@ -100,7 +100,7 @@ fn exchange_connected(held: &mut Held) -> i32
     }
 }
 
-/// Notes that a new connection is there.
+/// Notes that the new connection of the check, or else of the exchange, is there. Returns 0, `COG_ORDER` or `COG_MEMORY`.
 fn connected(held: &mut Held) -> i32
     ensures { Connects result held.old held.new }
 {
@@ -110,7 +110,7 @@ fn connected(held: &mut Held) -> i32
     }
 }
 
-/// Notes that a new connection is there.
+/// Notes that a new connection is there. Returns 0, `COG_ORDER`, `COG_MEMORY` or `COG_NO_CLIENT`.
 #[unsafe(no_mangle)]
 pub extern "C" fn delgunsai_client_connected(alloc: Global, client: &mut Handle) -> i32
     ensures { Drives (Connects result) (held_of client.old) (held_of client.new) result }
@@ -123,7 +123,7 @@ pub extern "C" fn delgunsai_client_connected(alloc: Global, client: &mut Handle)
     told
 }
 
-/// Notes that the connection is silent.
+/// Notes that nothing came on the connection before the request is written. Returns 0 or `COG_NO_CLIENT`.
 #[unsafe(no_mangle)]
 pub extern "C" fn delgunsai_client_silent(alloc: Global, client: &mut Handle) -> i32
     ensures { Drives (Keeps result) (held_of client.old) (held_of client.new) result }
@@ -136,7 +136,7 @@ pub extern "C" fn delgunsai_client_silent(alloc: Global, client: &mut Handle) ->
     0
 }
 
-/// Returns how a connection was lost, by its number: 1, ended; 3, late; any other, failed.
+/// Returns how a connection was lost, by its number: 1 is ended, 3 is late, and any other is failed.
 fn loss_of(how: u32) -> Loss {
     match how {
         1 => Loss::Ended,
@@ -145,7 +145,7 @@ fn loss_of(how: u32) -> Loss {
     }
 }
 
-/// Notes that the connection is gone.
+/// Notes that the connection is gone, and returns the next step. Fails where no memory is left.
 fn gone(held: &mut Held, how: Loss) -> Result<NextStep, Memory>
     ensures { EndsBy result held.old held.new }
 {
@@ -161,7 +161,8 @@ fn gone(held: &mut Held, how: Loss) -> Result<NextStep, Memory>
     Ok(next_step(0, step))
 }
 
-/// Notes that the connection is gone, and how, and says what is to be done next.
+/// Notes that the connection is gone, and how, and writes to `step` what to do next. Returns 0, `COG_MEMORY` or `COG_NO_CLIENT`. Unless it
+/// is 0, `step` stays.
 #[unsafe(no_mangle)]
 pub extern "C" fn delgunsai_client_gone(
     alloc: Global,
@@ -181,7 +182,7 @@ pub extern "C" fn delgunsai_client_gone(
     told
 }
 
-/// Sets how many exchanges each query may take.
+/// Lets each query take at most `exchanges` exchanges, and drops what is under way. Returns 0.
 fn set_exchanges(held: &mut Held, exchanges: u32) -> i32
     ensures { SetsExchanges exchanges result held.old held.new }
 {
@@ -190,7 +191,7 @@ fn set_exchanges(held: &mut Held, exchanges: u32) -> i32
     0
 }
 
-/// Sets how many exchanges each query from here on may take. What is under way is dropped.
+/// Lets each query from here on take at most `exchanges` exchanges. What is under way is dropped. Returns 0 or `COG_NO_CLIENT`.
 #[unsafe(no_mangle)]
 pub extern "C" fn delgunsai_client_exchanges(
     alloc: Global,
@@ -207,7 +208,8 @@ pub extern "C" fn delgunsai_client_exchanges(
     told
 }
 
-/// Begins the check whether the file is still the same, over a connection of its own. The number says whether there is one.
+/// Begins the check whether the file is still the same, over a connection of its own. Returns 1, 0 where the client has no revision to
+/// check, or `COG_MEMORY`.
 fn ask_same(alloc: Global, held: &mut Held) -> i32
     ensures { AsksSame result held.old held.new }
 {
@@ -223,7 +225,8 @@ fn ask_same(alloc: Global, held: &mut Held) -> i32
     }
 }
 
-/// Begins the check whether the file is still the same.
+/// Begins the check whether the file is still the same. Returns 1, 0 where the client has no revision to check, `COG_MEMORY` or
+/// `COG_NO_CLIENT`.
 #[unsafe(no_mangle)]
 pub extern "C" fn delgunsai_client_ask_same(alloc: Global, client: &mut Handle) -> i32
     ensures { Drives (AsksSame result) (held_of client.old) (held_of client.new) result }

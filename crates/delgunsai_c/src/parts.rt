@@ -5,7 +5,7 @@ ghost use Rattle.std.specs.Box.Ownership.{box_owns};
 use std::alloc::Allocator;
 use std::marker::Model;
 
-/// The address of a value in the heap, which it owns, and the allocator that frees it.
+/// Owns a value in the heap by its address, with the allocator that frees it.
 pub struct RawParts<T, A: Allocator> {
     pub ptr: *mut T,
     pub alloc: A,
@@ -17,7 +17,7 @@ impl<T, A: Allocator> Model for RawParts<T, A> {
 }
 
 impl<T, A: Allocator> RawParts<T, A> {
-    /// The parts of a box.
+    /// Takes a box apart.
     pub fn of(b: Box<T, A>) -> RawParts<T, A>
     where
         T: Drop,
@@ -27,7 +27,7 @@ impl<T, A: Allocator> RawParts<T, A> {
         RawParts { ptr, alloc }
     }
 
-    /// The box again.
+    /// Makes the box again.
     pub fn into_box(self) -> Box<T, A>
         ensures { result.value ≡ self.value }
     {

@@ -1,4 +1,4 @@
-//! A query is asked.
+//! Calls that set the query.
 ghost use Rattle.tiff_dir.specs.declared.query.Pick.TheVariants.{Columns, Level};
 ghost use Rattle.tiff_dir.specs.declared.query.Query.TheVariants.{Info, Window};
 ghost use Rattle.cog_client.specs.Keeps.{OpensKeeping};
@@ -11,7 +11,7 @@ use cog_client::Query;
 use std::alloc::Global;
 use tiff_dir::Pick;
 
-/// Asks a query, in the place of the one before.
+/// Sets the query, instead of the one before, and drops what is under way. Returns 0 or `COG_NO_CLIENT`.
 fn open(alloc: Global, client: &mut Handle, query: Query) -> i32
     ensures { Calls (λ s t. Done (OpensKeeping query s t) result) (client_of client.old) (client_of client.new) result }
 {
@@ -24,7 +24,7 @@ fn open(alloc: Global, client: &mut Handle, query: Query) -> i32
     0
 }
 
-/// Asks for the samples of a window of the level of a number.
+/// Asks for a window in pixels of the level `level`: `w` columns from `x` and `h` rows from `y`. Returns 0 or `COG_NO_CLIENT`.
 #[unsafe(no_mangle)]
 pub extern "C" fn cog_client_open_window(
     alloc: Global,
@@ -42,7 +42,8 @@ pub extern "C" fn cog_client_open_window(
     open(alloc, client, Query::Window { x, y, w, h, pick })
 }
 
-/// Asks for the samples of a window, in pixels of level 0, of the smallest level that has at least so many columns of it.
+/// Asks for a window in pixels of level 0. Its samples are of the smallest level in which it has at least `columns` columns, or of
+/// level 0 where there is none. Returns 0 or `COG_NO_CLIENT`.
 #[unsafe(no_mangle)]
 pub extern "C" fn cog_client_open_columns(
     alloc: Global,
@@ -60,7 +61,7 @@ pub extern "C" fn cog_client_open_columns(
     open(alloc, client, Query::Window { x, y, w, h, pick })
 }
 
-/// Asks for the sides of the levels, and what georeferences the image.
+/// Asks for Info: the sides of the levels, and what georeferences the image. Returns 0 or `COG_NO_CLIENT`.
 #[unsafe(no_mangle)]
 pub extern "C" fn cog_client_open_info(alloc: Global, client: &mut Handle) -> i32
     ensures { Calls (λ s t. Done (OpensKeeping Info s t) result) (client_of client.old) (client_of client.new) result }

@@ -1,4 +1,4 @@
-//! What a report tells.
+//! Calls that read the report. A text that is longer than its room isn't copied.
 ghost use Rattle.std.specs.Prelude.{◌≡◌};
 ghost use Rattle.delgunsai_c.specs.Calls.{Calls, Kept};
 ghost use Rattle.delgunsai_c.specs.Handle.{client_of};
@@ -11,27 +11,27 @@ use cog_client::{Client, Outcome};
 use std::alloc::Global;
 use text_report::info_text;
 
-/// What a report tells, in numbers.
+/// Holds the numbers of a report: `struct cog_report`.
 #[repr(C)]
 #[derive(Clone, Copy, Debug, PartialEq, Eq)]
 pub struct Told {
-    /// 1 a window, 2 Info, 3 a fault.
+    /// 1 is a window, 2 Info, 3 a fault.
     pub kind: u32,
-    /// Columns of a window; 0 of another report, as all that follow.
+    /// The columns of a window. This and all numbers below are 0 in a report that has none of the kind.
     pub width: u32,
-    /// Rows.
+    /// The rows of a window.
     pub height: u32,
-    /// Samples of a pixel, 1 or 3.
+    /// The samples of a pixel, 1 or 3.
     pub samples: u32,
-    /// Bits of a sample, 8 or 16.
+    /// The bits of a sample, 8 or 16.
     pub bits: u32,
     /// The number of a fault, 1 to 18.
     pub fault: u32,
-    /// The field that the fault is about; 0 where it is about none.
+    /// The tag of the field that the fault is about, or 0 where it is about none.
     pub field: u32,
 }
 
-/// A report without any of the numbers.
+/// Returns the kind of a report, with 0 for its other numbers.
 fn kind_alone(kind: u32) -> Told
     ensures { result ≡ kind_told kind }
 {
@@ -46,7 +46,7 @@ fn kind_alone(kind: u32) -> Told
     }
 }
 
-/// What an outcome tells.
+/// Returns the numbers of an outcome.
 fn numbers_of(outcome: &Outcome) -> Told
     ensures { result ≡ told_of outcome.now }
 {
@@ -67,7 +67,8 @@ fn numbers_of(outcome: &Outcome) -> Told
     }
 }
 
-/// What the report of a client tells, and the tag of its file.
+/// Writes the numbers of the report to `out`, and copies its ETag to `tag`. Returns the ETag's length in bytes, or 0 where no report
+/// stands.
 fn report(client: &Client, out: &mut Told, tag: &mut [u8]) -> i64
     ensures { TellsReport client.now out.old out.new tag.old tag.new result }
 {
@@ -80,7 +81,7 @@ fn report(client: &Client, out: &mut Told, tag: &mut [u8]) -> i64
     }
 }
 
-/// The samples of the window that a client reports.
+/// Copies the samples of the window that is reported to `room`. Returns their length in bytes, `COG_NO_REPORT` or `COG_OTHER_REPORT`.
 fn pixels(client: &Client, room: &mut [u8]) -> i64
     ensures { TellsPixels client.now room.old room.new result }
 {
@@ -93,7 +94,8 @@ fn pixels(client: &Client, room: &mut [u8]) -> i64
     }
 }
 
-/// The text of the Info that a client reports.
+/// Copies the text of the Info that is reported to `room`. Returns its length in bytes, `COG_NO_REPORT`, `COG_OTHER_REPORT` or
+/// `COG_MEMORY`.
 fn info(alloc: Global, client: &Client, room: &mut [u8]) -> i64
     ensures { TellsInfo client.now room.old room.new result }
 {
@@ -109,7 +111,8 @@ fn info(alloc: Global, client: &Client, room: &mut [u8]) -> i64
     }
 }
 
-/// What the report tells that stands, and the tag of its file.
+/// Writes the numbers of the report to `out`, and copies its ETag to `tag`. Returns the ETag's length in bytes, 0 where no report stands,
+/// or `COG_NO_CLIENT`.
 #[unsafe(no_mangle)]
 pub extern "C" fn cog_client_report(
     alloc: Global,
@@ -130,7 +133,8 @@ pub extern "C" fn cog_client_report(
     told
 }
 
-/// The samples of the window that is reported.
+/// Copies the samples of the window that is reported to `room`. Returns their length in bytes, `COG_NO_REPORT`, `COG_OTHER_REPORT` or
+/// `COG_NO_CLIENT`.
 #[unsafe(no_mangle)]
 pub extern "C" fn cog_client_pixels(alloc: Global, client: &mut Handle, room: &mut [u8]) -> i64
     ensures does { Calls (λ s t. Kept (TellsPixels s room.old room.new result) s t)
@@ -145,7 +149,8 @@ pub extern "C" fn cog_client_pixels(alloc: Global, client: &mut Handle, room: &m
     told
 }
 
-/// The text of what Info tells that is reported.
+/// Copies the text of the Info that is reported to `room`. Returns its length in bytes, `COG_NO_REPORT`, `COG_OTHER_REPORT`, `COG_MEMORY`
+/// or `COG_NO_CLIENT`.
 #[unsafe(no_mangle)]
 pub extern "C" fn cog_client_info(alloc: Global, client: &mut Handle, room: &mut [u8]) -> i64
     ensures does { Calls (λ s t. Kept (TellsInfo s room.old room.new result) s t)

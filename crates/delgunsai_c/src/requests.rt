@@ -1,4 +1,5 @@
-//! Requests are made: for what a query needs, ahead of their time too, and to check whether the file is still the same.
+//! Calls that make requests: the next one, those that may be sent early, and the check whether the file is still the same. A request that
+//! is longer than its room isn't copied.
 ghost use Rattle.std.specs.Prelude.{◌≡◌};
 ghost use Rattle.cog_client.specs.Keeps.{KeepsOpen, LooksAhead};
 ghost use Rattle.delgunsai_c.specs.Calls.{AsksOr, Calls, ChecksOr, Done, ForetellsOr};
@@ -10,7 +11,7 @@ use crate::laying::lay;
 use cog_client::Client;
 use std::alloc::Global;
 
-/// The next request of a client into a caller's room, or 0.
+/// Copies the client's next request to `room`. Returns its length in bytes, 0 where there is none, or `COG_MEMORY`.
 fn request(client: &mut Client, room: &mut [u8]) -> i64
     ensures { AsksOr room.old room.new result client.old client.new }
 {
@@ -21,7 +22,7 @@ fn request(client: &mut Client, room: &mut [u8]) -> i64
     }
 }
 
-/// The check of a client into a caller's room, or 0.
+/// Copies the client's check to `room`. Returns its length in bytes, 0 where there is none, or `COG_MEMORY`.
 fn check(client: &Client, room: &mut [u8]) -> i64
     ensures { ChecksOr room.old room.new result client.now client.now }
 {
@@ -32,7 +33,7 @@ fn check(client: &Client, room: &mut [u8]) -> i64
     }
 }
 
-/// A later request of a client into a caller's room, or 0.
+/// Copies the early request at place `index` to `room`. Returns its length in bytes, 0 where there is none, or `COG_MEMORY`.
 fn later(client: &Client, index: u32, room: &mut [u8]) -> i64
     ensures { ForetellsOr index room.old room.new result client.now client.now }
 {
@@ -45,7 +46,7 @@ fn later(client: &Client, index: u32, room: &mut [u8]) -> i64
     }
 }
 
-/// Writes requests from here on so that a connection may be kept from one to the next.
+/// Makes requests from here on such that a connection may be kept from one to the next. Returns 0 or `COG_NO_CLIENT`.
 #[unsafe(no_mangle)]
 pub extern "C" fn cog_client_keep_open(alloc: Global, client: &mut Handle) -> i32
     ensures { Calls (λ s t. Done (KeepsOpen s t) result) (client_of client.old) (client_of client.new) result }
@@ -58,7 +59,7 @@ pub extern "C" fn cog_client_keep_open(alloc: Global, client: &mut Handle) -> i3
     0
 }
 
-/// Looks ahead by so many blocks from here on.
+/// Looks ahead by `blocks` blocks from here on. Returns 0 or `COG_NO_CLIENT`.
 #[unsafe(no_mangle)]
 pub extern "C" fn cog_client_look_ahead(alloc: Global, client: &mut Handle, blocks: u32) -> i32
     ensures { Calls (λ s t. Done (LooksAhead blocks s t) result) (client_of client.old) (client_of client.new) result }
@@ -71,7 +72,8 @@ pub extern "C" fn cog_client_look_ahead(alloc: Global, client: &mut Handle, bloc
     0
 }
 
-/// Goes on as far as the blocks reach, and makes the next request.
+/// Goes on as far as the known bytes reach, and copies the next request to `room`. Returns its length in bytes, 0 where there is none,
+/// `COG_MEMORY` or `COG_NO_CLIENT`.
 #[unsafe(no_mangle)]
 pub extern "C" fn cog_client_request(alloc: Global, client: &mut Handle, room: &mut [u8]) -> i64
     ensures does { Calls (AsksOr room.old room.new result) (client_of client.old) (client_of client.new) result }
@@ -85,7 +87,8 @@ pub extern "C" fn cog_client_request(alloc: Global, client: &mut Handle, room: &
     told
 }
 
-/// The check whether the file still has the revision's tag.
+/// Copies the request that asks whether the file still has the revision's ETag to `room`. Returns its length in bytes, 0 without a
+/// revision, `COG_MEMORY` or `COG_NO_CLIENT`.
 #[unsafe(no_mangle)]
 pub extern "C" fn cog_client_check(alloc: Global, client: &mut Handle, room: &mut [u8]) -> i64
     ensures does { Calls (ChecksOr room.old room.new result) (client_of client.old) (client_of client.new) result }
@@ -99,7 +102,8 @@ pub extern "C" fn cog_client_check(alloc: Global, client: &mut Handle, room: &mu
     told
 }
 
-/// The request at place `index` of those that may be sent before the answer comes to the one that was given last.
+/// Copies a request to `room` that may be sent before the answer to the last one comes: the one at place `index`. Returns its length in
+/// bytes, 0 where none is known, `COG_MEMORY` or `COG_NO_CLIENT`.
 #[unsafe(no_mangle)]
 pub extern "C" fn cog_client_later(
     alloc: Global,

@@ -1,9 +1,9 @@
-//! What is said of an answer, in numbers.
+//! What an answer did, in numbers.
 ghost use Rattle.std.specs.Prelude.{◌≡◌};
 
 use cog_client::{Current, Delivered};
 
-/// What is said of an answer: one of three, and a number.
+/// Holds what an answer did, or what it says, in the numbers of `struct cog_said`.
 #[repr(C)]
 #[derive(Clone, Copy, Debug, PartialEq, Eq)]
 pub struct Said {
@@ -14,8 +14,8 @@ pub struct Said {
 impl Said {
     ghost use Rattle.delgunsai_c.specs.Said.{said_of_delivered, said_of_current};
 
-    /// What a delivered answer did: 1, of which so many blocks were stored; 2, from which on another revision is read; 3, which
-    /// was ignored for the reason of this number.
+    /// Returns what a delivered answer did. Kind 1 is taken, and `number` counts the blocks that were stored. Kind 2 is a restart. Kind 3
+    /// is ignored, and `number` is the reason (`docs/PROFILE.md`).
     pub fn of_delivered(delivered: Delivered) -> Said
         ensures { result ≡ said_of_delivered delivered }
     {
@@ -32,7 +32,8 @@ impl Said {
         }
     }
 
-    /// What the answer to a check tells: 1, the same tag; 2, another one; 3, nothing, for the reason of this number.
+    /// Returns what the answer to a check says of the ETag. Kind 1 is the same ETag, kind 2 another one. Kind 3 is neither, and `number` is
+    /// the reason.
     pub fn of_current(current: Current) -> Said
         ensures { result ≡ said_of_current current }
     {

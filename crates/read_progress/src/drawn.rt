@@ -1,4 +1,4 @@
-//! Exchanges whose progress is drawn on standard error, as one line over itself.
+//! Exchanges whose progress is drawn on standard error, each time over the line before.
 ghost use Rattle.std.specs.Prelude.{◌≡◌, ◌+◌, ◌<◌, ◌≤◌, ◌^◌, ◌⊎◌, Bool, IsSome, IsTrue, OnErr, OnOk, true};
 ghost use Rattle.cog_client.specs.Calls.{IsIdle};
 ghost use Rattle.cog_client.specs.Client.{report_of};
@@ -21,8 +21,8 @@ impl fmt::Display for Progress {
     }
 }
 
-/// Sends the client's requests to a source that is noted, until a report stands, in so many exchanges at most. How far they have come
-/// is drawn on standard error after each of them; what can't be written is lost. The line is left open. Want of memory ends it.
+/// Makes exchanges over `noted` until the client has a report, but at most `requests`. After each one it draws on standard error how far
+/// they have come, and ignores an error of that. The line isn't ended. Fails with `Memory` where no memory is left.
 pub fn exchanges_drawn<R: Eprint, P: Pieces>(
     rt: &R,
     client: &mut Client,
@@ -34,9 +34,9 @@ pub fn exchanges_drawn<R: Eprint, P: Pieces>(
     ensures ends { OnOk result ((P.count (source_of noted.new) ≡ P.count (source_of noted.old) + requests) ⊎ IsIdle client.new) }
     ensures few { P.count (source_of noted.new) ≤ P.count (source_of noted.old) + requests }
 
-    // It is asked for its request, and what comes of the answer is taken, as often as the source counts, and nothing
-    // else is done to it; want of memory came in the last of some such exchanges. What was lost is told from then on,
-    // and what is taken later might have been taken now.
+    // `fetches`: the client makes as many exchanges as the source counts, and nothing else is done to it. Each is a request and what comes
+    // of its answer. `stops`: where no memory was left, that was in the last of some such exchanges. `told`: a source that has lost an
+    // answer says so from then on. `goes_on`: what is taken later might have been taken now.
     ensures fetches { OnOk result (FetchesAll (TakenOf (P.speaks_for (source_of noted.old)) (P.answers (source_of noted.old))
         (P.has_lost (source_of noted.new)))
         (P.count (source_of noted.old)) (P.count (source_of noted.new)) client.old client.new) }

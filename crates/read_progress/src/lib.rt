@@ -1,4 +1,4 @@
-//! What each exchange with a server came to, noted where it passes, and told on standard error.
+//! Notes what each exchange with a server brought, and prints it on standard error.
 #![tactic(auto)]
 
 mod clock;

@@ -1,4 +1,4 @@
-//! An exchange as the line that `cogread --verbose` tells.
+//! The line that `cogread --verbose` prints for an exchange.
 use crate::noted::Came;
 use crate::sentences::WhySentence;
 use cog_client::Tag;
@@ -7,7 +7,7 @@ use http_range::Head;
 use std::{fmt, io};
 use text_report::EscapedText;
 
-/// An exchange: what was asked, what came, how long it took, and what the client reads then.
+/// Holds an exchange: what was asked, what came, how long it took, and what the client reads then.
 #[derive(Drop)]
 pub(crate) struct ExchangeLine<'c, 'n> {
     /// The file's name.
@@ -15,25 +15,25 @@ pub(crate) struct ExchangeLine<'c, 'n> {
     /// The Range field of the request.
     pub range: &'n str,
     pub status: Option<&'n str>,
-    /// How many bytes came, those of the head among them.
+    /// The number of bytes that came, with those of the head.
     pub bytes: u64,
     pub milliseconds: u64,
     pub came: Came,
-    /// Why the last connection wasn't made.
+    /// The error of the last connection, where it wasn't made.
     pub refusal: Option<io::Error>,
-    /// The tag that the client read before the exchange, and the one that it reads after it.
+    /// The ETags of the revisions that the client reads before the exchange, and after it.
     pub before: Option<Tag>,
     pub after: Option<Tag>,
-    /// The length of the file that the client reads after it.
+    /// The length in bytes of the file that the client reads after the exchange.
     pub complete: Option<u64>,
 }
 
-/// A tag's text, as a terminal may see it. Without UTF-8 there is none.
+/// Returns the text of an ETag, with its control characters escaped. It is empty where the ETag isn't UTF-8.
 fn shown(tag: &Tag) -> EscapedText<'_> {
     EscapedText(str::from_utf8(tag.as_bytes()).unwrap_or_default())
 }
 
-/// Whether a client reads the revision of this tag.
+/// Returns whether a client reads the revision with the ETag `of`.
 fn reads(tag: &Option<Tag>, of: &Tag) -> bool {
     match tag {
         Some(tag) => tag == of,
@@ -42,7 +42,7 @@ fn reads(tag: &Option<Tag>, of: &Tag) -> bool {
 }
 
 impl ExchangeLine<'_, '_> {
-    /// What the client made of the bytes that came behind a head.
+    /// Prints what the client made of `count` bytes of the body, which came after `head`.
     fn write_brought<W: fmt::Write>(
         &self,
         f: &mut fmt::Formatter<W>,
@@ -70,7 +70,7 @@ impl ExchangeLine<'_, '_> {
         Ok(())
     }
 
-    /// Why an answer ended before its length: the reader takes no more than `ANSWER_LIMIT` bytes of one.
+    /// Returns why an answer ended before its length. The reader takes at most `ANSWER_LIMIT` bytes of an answer.
     fn end_words(&self) -> &'static str {
         if self.bytes < ANSWER_LIMIT as u64 {
             "the connection broke"

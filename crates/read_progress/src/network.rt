@@ -1,4 +1,4 @@
-//! A runtime that notes why the last connection wasn't made.
+//! A network that notes why the last connection wasn't made.
 ghost use Rattle.std.specs.Prelude.{◌≤◌, length, IfOk};
 
 use std::alloc::Global;
@@ -6,7 +6,7 @@ use std::cell::Cell;
 use std::io;
 use std::net::{Net, SocketAddr};
 
-/// A runtime whose network is another one's, and notes why the last connection wasn't made.
+/// Passes calls on to the network of a runtime, and notes why the last connection wasn't made.
 #[derive(Drop)]
 pub struct NotedNet<'r, R> {
     rt: &'r R,
@@ -14,7 +14,7 @@ pub struct NotedNet<'r, R> {
 }
 
 impl<'r, R> NotedNet<'r, R> {
-    /// The network of a runtime, before the first connection.
+    /// Makes one over the network of `rt`, before the first connection.
     pub fn new(rt: &'r R) -> Self {
         NotedNet {
             rt,
@@ -22,7 +22,7 @@ impl<'r, R> NotedNet<'r, R> {
         }
     }
 
-    /// Why the last connection wasn't made; none where it was.
+    /// Returns the error of the last connection or look-up of a host, or `None` where it succeeded.
     pub fn refusal(&self) -> Option<io::Error> {
         self.refusal.get()
     }
@@ -36,7 +36,7 @@ impl<R: AllocGlobal> Alloc for NotedNet<'_, R> {
     }
 }
 
-/// The error, if there is one.
+/// Returns the error, if there is one.
 fn error_of<T>(made: &io::Result<T>) -> Option<io::Error> {
     match made {
         Ok(_) => None,

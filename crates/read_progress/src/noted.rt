@@ -1,4 +1,4 @@
-//! A source of answers in pieces that is another one, and notes what came of the last exchange.
+//! A source of answers that stands for another one, and notes what the last exchange brought.
 ghost use Rattle.std.specs.Prelude.{◌≡◌, ◌+◌, [], IfSome, false, length, min};
 ghost use Rattle.std.specs.Char.{is_ascii_digit};
 ghost use Rattle.std.specs.List.{AllPass};
@@ -9,34 +9,34 @@ use cog_client::{Lost, Pieces, Why};
 use http_range::{Head, HeadReading, read_head, read_request};
 use std::alloc::Global;
 
-/// The most bytes of an answer's front that are noted: those that a head may have.
+/// The most bytes that are noted of an answer: those that a head may have.
 const FRONT_ROOM: usize = 4096;
 
-/// What came of an exchange.
+/// Says what came of an exchange.
 #[derive(Debug, Drop)]
 pub enum Came {
     /// The request wasn't sent.
     Unsent,
-    /// Not one byte of an answer.
+    /// No byte of an answer came.
     Nothing,
-    /// An answer that can't be used.
+    /// The answer can't be used, for this reason.
     NotUsed(Why),
-    /// The head of an answer that brings a piece of a file, and so many bytes of its body.
+    /// The head of an answer that brings a byte range of a file, and the number of bytes that came of its body.
     Brought(Head, u64),
 }
 
-/// How far all exchanges have come.
+/// Counts what all exchanges have brought.
 #[derive(Clone, Copy, Debug, PartialEq, Eq)]
 pub struct Progress {
-    /// How many ranges brought bytes of the file.
+    /// The number of ranges of which bytes came.
     pub had: u64,
-    /// How many ranges were asked for.
+    /// The number of ranges that were asked for.
     pub asked: u64,
-    /// How many bytes came, those of heads among them.
+    /// The number of bytes that came, with those of heads.
     pub bytes: u64,
 }
 
-/// Another source, whose requests and answers are noted as they pass. It speaks for what the other one speaks for.
+/// Passes requests to another source, and its answers back, and notes both. It speaks for what the other source speaks for.
 #[derive(Drop)]
 pub struct Noted<P> {
     source: P,
@@ -44,12 +44,12 @@ pub struct Noted<P> {
     range: Vec<u8>,
     front: Vec<u8>,
     bytes: u64,
-    /// How far the exchanges before the last one had come.
+    /// What the exchanges before the last one had brought.
     before: Progress,
 }
 
 impl<P> Noted<P> {
-    /// A source of which nothing is noted so far.
+    /// Makes one over `source`. Nothing is noted yet.
     pub fn new(alloc: Global, source: P) -> Noted<P>
         ensures source { source_of result ≡ source }
         ensures sent { sent_of result ≡ false }
@@ -70,12 +70,12 @@ impl<P> Noted<P> {
         }
     }
 
-    /// The Range field of the last request, as `bytes=0-65535`.
+    /// Returns the value of the last request's Range field, as `bytes=0-65535`.
     pub(crate) fn range(&self) -> &[u8] {
         &self.range
     }
 
-    /// The status of the last answer, by its three digits (RFC 9112, section 4). None where other bytes stand in their place.
+    /// Returns the three digits of the last answer's status code (RFC 9112, section 4), or `None` where other bytes stand there.
     pub(crate) fn status(&self) -> Option<&str>
         ensures { IfSome result (λ text. AllPass is_ascii_digit text.now) }
     {
@@ -88,12 +88,12 @@ impl<P> Noted<P> {
         str::from_utf8(digits).ok()
     }
 
-    /// How many bytes came of the last answer, its head among them.
+    /// Returns the number of bytes that came of the last answer, with its head.
     pub(crate) fn bytes(&self) -> u64 {
         self.bytes
     }
 
-    /// What came of the last exchange.
+    /// Returns what came of the last exchange.
     pub fn came(&self) -> Came
         ensures { HasCome self.now result }
     {
@@ -113,7 +113,7 @@ impl<P> Noted<P> {
         }
     }
 
-    /// Why the answer to the last request isn't used, where no later one will be.
+    /// Returns why the last answer isn't used, where the next one is expected to be unused for the same reason. Else returns `None`.
     pub fn lasting_refusal(&self) -> Option<Why>
         ensures { IfSome result (λ why. IsRefused why self.now) }
     {
@@ -123,7 +123,7 @@ impl<P> Noted<P> {
         }
     }
 
-    /// How far all exchanges have come.
+    /// Returns what all exchanges have brought.
     pub fn progress(&self) -> Progress {
         let Progress { had, asked, bytes } = self.before;
         let has_come = matches!(self.came(), Came::Brought(_, 1..));
@@ -134,7 +134,8 @@ impl<P> Noted<P> {
         }
     }
 
-    /// Notes a request, and drops what was noted before, but for how far it had come. What there is no memory for isn't noted.
+    /// Notes a request. What was noted of the last exchange is dropped, but its progress is kept. Without memory the Range field isn't
+    /// noted.
     fn note_request(&mut self, request: &[u8])
         ensures source { source_of self.new ≡ source_of self.old }
         ensures sent { sent_of self.new ≡ false }
@@ -154,7 +155,8 @@ impl<P> Noted<P> {
         }
     }
 
-    /// Notes the next bytes of the answer: behind the front, unless bytes of that are missing.
+    /// Counts the next bytes of the answer, and appends them to its noted front. None is appended where the front has no room, or lacks
+    /// bytes before.
     fn note_piece(&mut self, piece: &[u8])
         ensures source { source_of self.new ≡ source_of self.old }
         ensures sent { sent_of self.new ≡ sent_of self.old }
@@ -194,7 +196,7 @@ impl<P: Pieces> Pieces for Noted<P> {
         ensures bytes { bytes_of self.new ≡ 0 }
         ensures front { front_of self.new ≡ [] }
 
-        // So it keeps the trait's law.
+        // It keeps the trait's law.
         ensures answered { OnOk result (P.answers (source_of self.old) request.now (P.rest (source_of self.new))) }
         ensures dropped { OnErr result (P.rest (source_of self.new) ≡ []) }
         ensures told { OnErr result (IsTrue (P.has_lost (source_of self.new))) }
@@ -219,7 +221,7 @@ impl<P: Pieces> Pieces for Noted<P> {
         ensures front { IfOk result (λ n. NotesOf (take n out.new) self.old self.new) }
         ensures lost { OnErr result ((bytes_of self.new ≡ bytes_of self.old) × (front_of self.new ≡ front_of self.old)) }
 
-        // So it keeps the trait's law.
+        // It keeps the trait's law.
         ensures fits { IfOk result (λ n. n ≤ length out.new) }
         ensures brings { IfOk result (λ n. BringsOf (P.speaks_for (source_of self.old)) (P.rest (source_of self.old)) out.new n
             (P.rest (source_of self.new))) }

@@ -5,11 +5,11 @@ ghost use Rattle.read_progress.specs.Lasting.{is_lasting, is_lasting_status};
 use cog_client::{ClientError, Why};
 use std::fmt;
 
-/// Why an answer isn't used, as a sentence without its end.
+/// Prints why an answer isn't used, as a sentence without a full stop.
 #[derive(Clone, Copy, Debug, PartialEq, Eq)]
 pub struct WhySentence(pub Why);
 
-/// What a status other than 200 and 206 says of a file (RFC 9110, section 15).
+/// Returns what a status code other than 200 and 206 says of a file (RFC 9110, section 15).
 fn status_words(status: u16) -> &'static str {
     match status {
         301 | 302 | 303 | 307 | 308 => "the file is elsewhere, and redirections aren't followed",
@@ -23,7 +23,7 @@ fn status_words(status: u16) -> &'static str {
     }
 }
 
-/// Returns whether a server that gave this status gives it again to the same request: its file is elsewhere, or it doesn't give it.
+/// Returns whether the same request is expected to get `status` again, since the file is elsewhere or the server doesn't give it.
 fn is_lasting_status(status: u16) -> bool
     ensures { result ≡ is_lasting_status status }
 {
@@ -33,7 +33,7 @@ fn is_lasting_status(status: u16) -> bool
     )
 }
 
-/// Returns whether the next answer isn't used for the same reason: the status stays, or the server gives no tag that is read.
+/// Returns whether the next answer is expected to be unused for the same reason: its status stays, or no ETag comes that is read.
 pub fn is_lasting(why: Why) -> bool
     ensures { result ≡ is_lasting why }
 {
@@ -62,7 +62,7 @@ impl fmt::Display for WhySentence {
     }
 }
 
-/// Why no client is made of a server and a name, as a sentence without its end.
+/// Prints why no client is made of a server and a name, as a sentence without a full stop.
 #[derive(Clone, Copy, Debug)]
 pub struct RefusalSentence<'a>(pub &'a ClientError);
 

@@ -1,4 +1,4 @@
-//! Exchanges that are told on standard error, each when it is over.
+//! Exchanges of which each is printed on standard error.
 ghost use Rattle.std.specs.Prelude.{◌≡◌, ◌+◌, ◌<◌, ◌≤◌, ◌^◌, ◌⊎◌, Bool, IfOk, IsSome, IsTrue, OnErr, OnOk, true, false, if◌then◌else◌};
 ghost use Rattle.cog_client.specs.Calls.{IsIdle};
 ghost use Rattle.cog_client.specs.Client.{report_of};
@@ -14,7 +14,7 @@ use cog_client::{Client, FetchError, Pieces, Tag};
 use cog_fetch::exchange_pieces;
 use std::rt::Clock;
 
-/// The tag that a client reads, if it has one.
+/// Returns the ETag of the revision that a client reads, if it reads one.
 fn tag_of(client: &Client) -> Option<Tag> {
     match client.tag() {
         Some(tag) => Some(tag.copy()),
@@ -22,7 +22,8 @@ fn tag_of(client: &Client) -> Option<Tag> {
     }
 }
 
-/// One exchange, which is told, if the client has a request. Says whether it had one. At most so many follow.
+/// Makes one exchange, if the client has a request, and prints a line on it. Returns whether it had a request. At most `later` exchanges
+/// follow. Fails with `Memory` where no memory is left.
 fn exchange_told<R: Eprint + Clock, P: Pieces>(
     rt: &R,
     net: &NotedNet<'_, R>,
@@ -68,7 +69,7 @@ fn exchange_told<R: Eprint + Clock, P: Pieces>(
     Ok(true)
 }
 
-/// How many exchanges may follow, of so many at most, one that comes behind so many.
+/// Returns how many of `requests` exchanges are left after the next one, where `done` were made.
 fn later_of(requests: u32, done: u32) -> u32
     requires { done < requests }
     ensures { done + 1 + result ≡ requests }
@@ -76,8 +77,8 @@ fn later_of(requests: u32, done: u32) -> u32
     requests - done - 1
 }
 
-/// Sends the client's requests to a source that is noted, until a report stands, in so many exchanges at most. Each of them is told on
-/// standard error; a line that can't be written is lost. Want of memory ends it.
+/// Makes exchanges over `noted` until the client has a report, but at most `requests`. After each one it prints a line on standard error,
+/// and ignores an error of that. Fails with `Memory` where no memory is left.
 pub fn exchanges_told<R: Eprint + Clock, P: Pieces>(
     rt: &R,
     net: &NotedNet<'_, R>,
@@ -90,9 +91,9 @@ pub fn exchanges_told<R: Eprint + Clock, P: Pieces>(
     ensures ends { OnOk result ((P.count (source_of noted.new) ≡ P.count (source_of noted.old) + requests) ⊎ IsIdle client.new) }
     ensures few { P.count (source_of noted.new) ≤ P.count (source_of noted.old) + requests }
 
-    // It is asked for its request, and what comes of the answer is taken, as often as the source counts, and nothing
-    // else is done to it; want of memory came in the last of some such exchanges. What was lost is told from then on,
-    // and what is taken later might have been taken now.
+    // `fetches`: the client makes as many exchanges as the source counts, and nothing else is done to it. Each is a request and what comes
+    // of its answer. `stops`: where no memory was left, that was in the last of some such exchanges. `told`: a source that has lost an
+    // answer says so from then on. `goes_on`: what is taken later might have been taken now.
     ensures fetches { OnOk result (FetchesAll (TakenOf (P.speaks_for (source_of noted.old)) (P.answers (source_of noted.old))
         (P.has_lost (source_of noted.new)))
         (P.count (source_of noted.old)) (P.count (source_of noted.new)) client.old client.new) }

@@ -1,5 +1,6 @@
 //! Answers are taken.
 ghost use Rattle.std.specs.Prelude.{◌≡◌, ◌<◌, ◌≤◌, [], false, true, Some, IfOk, IsSome, OnErr, OnOk, length, take};
+ghost use Rattle.client_dialogue.specs.Useful.{IsStatusOf};
 ghost use Rattle.client_dialogue.specs.declared.step.Step.TheVariants.{More};
 ghost use Rattle.client_dialogue.specs.Goes.{Fails, Goes, IsUsed, Says, rounds_of};
 ghost use Rattle.client_dialogue.specs.Inside.{Concludes, Feeds, Halts, HasGoneOn, IsConcluded, IsFedBy, IsHaltedBy, given_up};
@@ -24,8 +25,13 @@ fn is_used(delivered: Delivered) -> bool
 }
 
 /// Returns the status code of a head, or 0 where it isn't whole.
-pub(crate) fn status_of(head: &[u8]) -> u16 {
-    read_frame(head).map_or(0, |frame| frame.status)
+pub(crate) fn status_of(head: &[u8]) -> u16
+    ensures { IsStatusOf head.now result }
+{
+    match read_frame(head) {
+        Ok(frame) => frame.status,
+        Err(_) => 0,
+    }
 }
 
 impl Dialogue {

@@ -1,4 +1,4 @@
-//! The requests that a client makes next, as far as they are known before the answer to the present one came.
+//! The requests that may be sent before the answer to the last one came.
 ghost use Rattle.std.specs.Prelude.{◌≡◌, ◌≤◌, [], IfOk, IsOk, length, map};
 ghost use Rattle.std.specs.List.{All};
 ghost use Rattle.cog_reader.specs.Early.{AreApart};
@@ -11,11 +11,13 @@ use extents::{Memory, Span};
 
 #[tactic(auto, unfolding(crate::specs::Client::asked_of, crate::specs::Client::blocks_of, crate::specs::Client::reader_of, crate::specs::Client::to_come, crate::specs::Client::Knows))]
 impl Client {
-    /// The requests that may be sent before the last one's answer comes, in the order in which they would follow it where each answer comes
-    /// whole; before none of them a missing block is left out that is known to be wanted. At most `most`, and none where requests close
-    /// their connections or don't look ahead. Whoever sends them early, one behind another on a connection (RFC 9112, section
-    /// 9.3.2), takes the answers as ever: `request` makes each of them once more when its turn comes, or another one, where an answer
-    /// came otherwise. `Memory` is the only error.
+    /// Returns at most `most` requests that may be sent before the answer to the last one. They stand in the order in
+    /// which `request` would make them if each answer came whole. No missing block is left out before one of them, if
+    /// it is known to be wanted. There are none where requests close their connections or don't look ahead.
+    ///
+    /// A sender may write them one after another on a connection (RFC 9112, section 9.3.2). It takes the answers as
+    /// ever: `request` makes each of them once more in its turn. It makes another one where an answer came otherwise.
+    /// Fails with `Memory` alone.
     pub fn early_requests(&self, most: u32) -> Result<Vec<Vec<u8>>, Memory>
         ensures requests { IfOk result (λ texts. AreEarlyRequests self.now (map (λ text. text.items) texts.items)) }
         ensures none { AsksNothingEarly self.now → IfOk result (λ texts. texts.items ≡ []) }
@@ -31,7 +33,7 @@ impl Client {
         Ok(texts)
     }
 
-    /// What those requests ask for.
+    /// Returns the byte ranges of those requests.
     fn spans_early(&self, most: u32) -> Result<Vec<Span>, Memory>
         ensures early { IfOk result (λ spans. All (IsEarly self.now) spans.items) }
         ensures apart { IfOk result (λ spans. AreApart spans.items) }

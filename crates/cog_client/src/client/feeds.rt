@@ -1,4 +1,4 @@
-//! The client takes an answer, piece by piece as it arrives, or whole.
+//! How the client takes an answer: piece by piece as it arrives, or whole.
 ghost use Rattle.std.specs.Prelude.{◌≡◌, ◌≤◌, ◌++◌, ℕ, List, [], IfOk, OnErr, OnOk, Ok, drop, length};
 ghost use Rattle.http_range.specs.Announced.{announced, FitsFile};
 ghost use Rattle.cog_client.specs.declared.delivered.Delivered.TheVariants.{Ignored as AnIgnored};
@@ -18,7 +18,7 @@ use range_cache::{law_parts_bring_blocks, law_stored_are_held};
 
 #[tactic(auto, unfolding(crate::specs::Client::asked_of, crate::specs::Client::revision_of, crate::specs::Client::blocks_of, crate::specs::Client::report_of, crate::specs::Client::feed_of, crate::specs::Client::buffer_of))]
 impl Client {
-    /// Begins an answer. An unfinished one is dropped. It takes no memory.
+    /// Begins an answer, and drops an unfinished one. It allocates nothing.
     pub fn begin(&mut self)
         ensures { Fed self.old [] self.new }
     {
@@ -26,9 +26,10 @@ impl Client {
         self.partial_answer.clear();
     }
 
-    /// Takes the next bytes of an answer, and stores the blocks that become whole. After `Memory`, the only error, the rest of
-    /// the answer is dropped: what is fed of it changes nothing, and its end tells that it is cut, though its revision may be read and
-    /// some of its blocks be stored. Where no answer is unfinished, one begins here without `begin`.
+    /// Takes the next bytes of an answer, and stores the blocks that become whole. Where no answer is unfinished, one
+    /// begins here without `begin`. Fails with `Memory` alone, and then the rest of the answer is dropped. What is fed
+    /// of it changes nothing, and `end` returns that it was cut. Still its revision may be read, and some of its blocks
+    /// may be stored.
     pub fn feed(&mut self, piece: &[u8]) -> Result<(), Memory>
         ensures ok { OnOk result ((s : ClientState) (p : List ℕ) → Fed s p self.old → Fed s (p ++ piece.now) self.new) }
         ensures err { OnErr result ((s : ClientState) (p : List ℕ) → Fed s p self.old → StopsDelivery s (p ++ piece.now) self.new) }
@@ -43,8 +44,8 @@ impl Client {
         fed
     }
 
-    /// Ends an answer, and goes on as far as the blocks reach. Says what the answer did: it was ignored and changed nothing, so
-    /// many blocks of it were stored, or another revision is read from now on. `Memory` is the only error.
+    /// Ends an answer, goes on as far as the blocks reach, and returns what the answer did. It was ignored and changed
+    /// nothing, or some of its blocks were stored, or another revision is read from now on. Fails with `Memory` alone.
     pub fn end(&mut self) -> Result<Delivered, Memory>
         ensures ok { IfOk result (λ what. (s : ClientState) (p : List ℕ) → Fed s p self.old → DeliversKeeping s p what self.new) }
         ensures err { OnErr result ((s : ClientState) (p : List ℕ) → Fed s p self.old → StopsDelivery s p self.new) }
@@ -67,9 +68,9 @@ impl Client {
         Ok(told)
     }
 
-    /// Takes an answer, or a front of one, and goes on as far as the blocks reach. Says what the answer did: it was ignored and
-    /// changed nothing, so many blocks of it were stored, or another revision is read from now on. After `Memory`, the only
-    /// error, its revision may be the one that is read, and some of its blocks may be stored.
+    /// Takes a whole answer, or a front of one, goes on as far as the blocks reach, and returns what the answer did. It
+    /// was ignored and changed nothing, or some of its blocks were stored, or another revision is read from now on.
+    /// Fails with `Memory` alone. Then its revision may be read, and some of its blocks may be stored.
     pub fn deliver(&mut self, answer: &[u8]) -> Result<Delivered, Memory>
         ensures ok { IfOk result (λ what. DeliversKeeping self.old answer.now what self.new) }
         ensures err { OnErr result (StopsDelivery self.old answer.now self.new) }
@@ -79,7 +80,8 @@ impl Client {
         self.end()
     }
 
-    /// Reads on in the head, if it isn't whole, and says from where on the bytes are of the body.
+    /// Reads on in the head, if it isn't whole. Returns the place in `piece` from which on the bytes belong to the
+    /// body.
     fn feed_head(&mut self, piece: &[u8]) -> usize
         ensures within { result ≤ length piece.now }
         ensures before { (s : ClientState) (p : List ℕ) → Fed s p self.old → FedBefore s (p ++ piece.now) (drop result piece.now) self.new }
@@ -97,7 +99,7 @@ impl Client {
         }
     }
 
-    /// Begins to follow the case of a head.
+    /// Begins to take the body by the case of its head.
     fn follow(&mut self, head: Head)
         requires fits { FitsFile (announced head) }
         ensures fed { FedBy (announced head) self.old [] self.new }
@@ -123,7 +125,7 @@ impl Client {
         self.partial_answer.follow(head, case, span);
     }
 
-    /// Takes bytes of the body, if it is taken.
+    /// Takes bytes of the body, if the body is taken.
     fn feed_body(&mut self, bytes: &[u8]) -> Result<(), Memory>
         ensures ok { OnOk result ((s : ClientState) (p : List ℕ) → FedBefore s p bytes.now self.old → Fed s p self.new) }
         ensures err { OnErr result ((s : ClientState) (p : List ℕ) → FedBefore s p bytes.now self.old → StopsDelivery s p self.new) }

@@ -1,7 +1,7 @@
 use Rattle.std.proofs.Common.{sym, subst}
 use Rattle.client_dialogue.specs.History.{Talk}
 use Rattle.client_dialogue.specs.Goes.{BeginsAnew}
-use Rattle.client_dialogue.proofs.HistoryLemmas.{begins_busy, begins_idle}
+use Rattle.client_dialogue.proofs.ExchangeLemmas.{begins_busy, begins_idle}
 use Rattle.client_dialogue.proofs.dialogue.Dialogue.begin.Goals as goal
 
 pub returns-then-self-clause-begins : goal.returns-then-self-clause-begins

@@ -2,7 +2,7 @@ use Rattle.std.proofs.Common.{ap, sym, subst, ◌∙◌}
 use Rattle.client_connection.specs.Status.{Status}
 use Rattle.client_dialogue.specs.History.{Talk}
 use Rattle.client_dialogue.specs.Goes.{BeginsAnew}
-use Rattle.client_dialogue.proofs.HistoryLemmas.{begins_over}
+use Rattle.client_dialogue.proofs.ExchangeLemmas.{begins_over}
 use Rattle.client_dialogue.proofs.dialogue.Dialogue.end.Goals as goal
 
 pub returns-clause-begins : goal.returns-clause-begins

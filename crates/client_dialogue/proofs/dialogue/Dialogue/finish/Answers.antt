@@ -2,7 +2,7 @@ use Rattle.std.proofs.Common.{[], sym, subst}
 use Rattle.client_dialogue.specs.History.{Talk}
 use Rattle.client_dialogue.specs.Goes.{Fails, Goes}
 use Rattle.client_dialogue.specs.Inside.{HasGoneOn}
-use Rattle.client_dialogue.proofs.HistoryLemmas.{finish_goes, stopped_goes}
+use Rattle.client_dialogue.proofs.ExchangeLemmas.{finish_goes, stopped_goes}
 use Rattle.client_dialogue.proofs.Results.{on_err}
 use Rattle.client_dialogue.proofs.dialogue.Dialogue.finish.Goals as goal
 

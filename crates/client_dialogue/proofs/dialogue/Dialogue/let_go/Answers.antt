@@ -2,7 +2,7 @@ use Rattle.std.proofs.Common.{[], false, ap, sym, subst, ◌∙◌}
 use Rattle.client_connection.specs.Status.{Status, over}
 use Rattle.client_dialogue.specs.History.{Talk}
 use Rattle.client_dialogue.specs.Goes.{Fails, Goes, MakesOne}
-use Rattle.client_dialogue.proofs.HistoryLemmas.{ended_goes, stopped_goes}
+use Rattle.client_dialogue.proofs.ExchangeLemmas.{ended_goes, stopped_goes}
 use Rattle.client_dialogue.proofs.Results.{on_err}
 use Rattle.client_dialogue.proofs.dialogue.Dialogue.let_go.Goals as goal
 

@@ -2,7 +2,8 @@ use Rattle.std.proofs.Common.{[], true, false, ap, sym, subst, ◌∙◌}
 use Rattle.client_connection.specs.Status.{Status, after_gone}
 use Rattle.client_dialogue.specs.History.{Talk}
 use Rattle.client_dialogue.specs.Goes.{Fails, Goes, MakesNone, MakesOne}
-use Rattle.client_dialogue.proofs.HistoryLemmas.{again_goes, head_step, lost_goes, none_goes, stopped_goes}
+use Rattle.client_dialogue.proofs.ExchangeLemmas.{head_step, lost_goes, stopped_goes}
+use Rattle.client_dialogue.proofs.HistoryLemmas.{again_goes, none_goes}
 use Rattle.client_dialogue.proofs.Results.{on_err, on_err_by}
 use Rattle.client_dialogue.proofs.dialogue.Dialogue.lose.Goals as goal
 

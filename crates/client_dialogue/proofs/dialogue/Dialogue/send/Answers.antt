@@ -1,7 +1,8 @@
 use Rattle.std.proofs.Common.{[], sym, subst}
 use Rattle.client_dialogue.specs.History.{Talk}
 use Rattle.client_dialogue.specs.Goes.{Fails, Goes, Stays}
-use Rattle.client_dialogue.proofs.HistoryLemmas.{put_fails, put_goes, then_goes}
+use Rattle.client_dialogue.proofs.ExchangeLemmas.{put_fails, put_goes}
+use Rattle.client_dialogue.proofs.HistoryLemmas.{then_goes}
 use Rattle.client_dialogue.proofs.Results.{on_err}
 use Rattle.client_dialogue.proofs.dialogue.Dialogue.send.Goals as goal
 

@@ -3,7 +3,8 @@ use Rattle.std.proofs.lemmas.List.{take-take}
 use Rattle.client_connection.specs.Status.{Status, Takes}
 use Rattle.client_dialogue.specs.History.{Talk}
 use Rattle.client_dialogue.specs.Goes.{Fails, Goes, rounds_of}
-use Rattle.client_dialogue.proofs.HistoryLemmas.{fed_goes, halt_goes, let_go_goes}
+use Rattle.client_dialogue.proofs.ExchangeLemmas.{fed_goes, halt_goes}
+use Rattle.client_dialogue.proofs.HistoryLemmas.{let_go_goes}
 use Rattle.client_dialogue.proofs.Results.{on_err}
 use Rattle.client_dialogue.proofs.dialogue.Dialogue.take.Goals as goal
 
