@@ -1,4 +1,5 @@
 pub mod AdditionsLemmas
+pub mod RoomLemmas
 pub mod CatalogueLemmas
 pub mod PlaceLemmas
 pub mod PublishLemmas

@@ -1,8 +1,10 @@
 -- Limits that the definitions of a server name.
-use Rattle.std.specs.Prelude.{◌≡◌}
+use Rattle.std.specs.Prelude.{◌≡◌, ◌≤◌, ◌+◌, ℕ, List, length, IfSome}
 use Rattle.http_fields.specs.declared.limits.TheConstants.{NAME_LIMIT, HOST_LIMIT}
 use Rattle.http_range.specs.declared.publication.TheConstants.{FILE_LIMIT, NAMES_LIMIT}
-use Rattle.cog_server.specs.declared.limits.TheConstants.{DROP_LIMIT}
+use Rattle.http_range.specs.Book.{IsCatalogue}
+use Rattle.cog_server.specs.declared.limits.TheConstants.{DROP_LIMIT, HEAD_ROOM, ORIGIN_LIMIT}
+use Rattle.cog_server.specs.Additions.{IsSent, Sent, ServiceState}
 
 -- in numbers: the bytes of a file's name, of a host's and of a file, the names of a server, and the bytes dropped behind a last message
 pub record ServerLimitsAre : Type 0 where
@@ -11,3 +13,10 @@ pub record ServerLimitsAre : Type 0 where
   pub file : FILE_LIMIT ≡ 67_108_864
   pub names : NAMES_LIMIT ≡ 64
   pub dropped : DROP_LIMIT ≡ 65_536
+
+-- What is sent has at most as many bytes as the body of the answer and the room for a head, where an origin has at most the bytes allowed.
+abbrev pub HeadsHaveRoom : Type 0
+HeadsHaveRoom =
+    (service : ServiceState) (n : ℕ) (message : List ℕ) (sent : Sent) → IsCatalogue service.catalogue
+    → IfSome service.added.origin (λ origin. length origin ≤ ORIGIN_LIMIT) → IsSent service n message sent
+    → length sent.text ≤ HEAD_ROOM + length sent.response.body

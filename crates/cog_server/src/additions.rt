@@ -1,5 +1,5 @@
-//! What a server adds to its answers by option: the fields of the CORS protocol (Fetch standard, section 3.3), and that an answer is the
-//! last (RFC 9112, section 9.6).
+//! What options add to answers. These are the fields of the CORS protocol (Fetch standard, section 3.3), and a notice
+//! that an answer is the last (RFC 9112, section 9.6).
 ghost use Rattle.std.specs.Prelude.{◌≡◌, ◌++◌, ◌<◌, OnOk, codes, option_copied};
 ghost use Rattle.std.specs.List.{flat_map};
 ghost use Rattle.http_fields.specs.declared.limits.TheConstants.{ANSWERS_LIMIT};
@@ -17,10 +17,10 @@ use std::alloc::AllocError;
 /// The line that ends a head.
 const EMPTY_LINE: &[u8] = b"\r\n";
 
-/// What a server adds to its answers by option.
+/// What options add to a server's answers.
 #[derive(Clone, Copy, Debug)]
 pub struct Additions<'a> {
-    /// The origin whose pages may read the answers in a browser; `*` stands for each origin.
+    /// The origin whose pages may read the answers in a browser. `*` stands for each origin.
     pub origin: Option<&'a [u8]>,
     /// Whether the hundredth answer of a connection says `Connection: close`.
     pub announces_last: bool,
@@ -31,7 +31,7 @@ impl Additions<'_> {
     ghost use Rattle.cog_server.specs.Additions.{nothing_added};
     ghost use Rattle.cog_server.specs.Service.{added_of};
 
-    /// Returns what adds nothing.
+    /// Returns additions that add nothing.
     pub fn nothing() -> Self
         ensures { added_of result ≡ nothing_added }
     {
@@ -50,21 +50,21 @@ pub fn closes_by(additions: Additions<'_>, count: usize, close: bool) -> bool
     close || (additions.announces_last && count + 1 == ANSWERS_LIMIT)
 }
 
-/// Returns whether a reply is that of a method that isn't answered.
+/// Returns whether a reply is 405, which refuses the method (RFC 9110, section 15.5.6).
 fn refuses_method(reply: &Reply) -> bool
     ensures { result ≡ refuses_method reply.now }
 {
     matches!(reply, Reply::R405)
 }
 
-/// Returns whether a preflight is answered in the place of `prepared`.
+/// Returns whether a preflight is answered instead of `prepared`.
 pub fn answers_preflight(additions: Additions<'_>, prepared: &Prepared<'_>) -> bool
     ensures { result ≡ answers_preflight (added_of additions.entry) prepared.now.is_preflight (response_of prepared.now) }
 {
     additions.origin.is_some() && prepared.is_preflight && refuses_method(&prepared.reply)
 }
 
-/// Adds the fields that say whose pages may read an answer.
+/// Adds the fields that say whose pages may read an answer. Fails where an allocation fails.
 fn push_origin(out: &mut Vec<u8>, origin: Option<&[u8]>) -> Result<(), AllocError>
     ensures { OnOk result (out.new.items ≡ out.old.items ++ flat_map line (origin_fields (option_copied origin.entry))) }
 {
@@ -83,7 +83,7 @@ fn push_origin(out: &mut Vec<u8>, origin: Option<&[u8]>) -> Result<(), AllocErro
     Ok(())
 }
 
-/// Adds what follows the own fields of an answer, up to the end of its head.
+/// Adds what follows the own fields of an answer, up to the end of its head. Fails where an allocation fails.
 fn push_end(out: &mut Vec<u8>, additions: Additions<'_>, close: bool) -> Result<(), AllocError>
     ensures { OnOk result (out.new.items ≡ out.old.items
         ++ (flat_map line (origin_fields (option_copied additions.entry.origin) ++ closing close) ++ codes "\r\n")) }
@@ -94,7 +94,7 @@ fn push_end(out: &mut Vec<u8>, additions: Additions<'_>, close: bool) -> Result<
     Ok(())
 }
 
-/// Adds the head of an answer, in which the added fields follow its own.
+/// Adds the head of an answer to `out`. The added fields follow the answer's own. Fails with `Memory` alone.
 pub fn push_head(
     out: &mut Vec<u8>,
     reply: &Reply,
@@ -110,7 +110,7 @@ pub fn push_head(
     Ok(())
 }
 
-/// Adds the head of the answer to a preflight.
+/// Adds the head of the answer to a preflight to `out`. Fails with `Memory` alone.
 pub fn push_preflight(
     out: &mut Vec<u8>,
     additions: Additions<'_>,

@@ -9,7 +9,7 @@ use crate::error::PublishError;
 use crate::published::Published;
 use http_range::{NAMES_LIMIT, Tag};
 
-/// Where the file of this name stands.
+/// Returns the place of the file `name`, or `None`.
 pub fn place_of(files: &[Published], name: &[u8]) -> Option<usize>
     ensures { result ≡ position (λ file. bytes_eq file.name.items name.now) files.now }
 {
@@ -22,14 +22,14 @@ fn first_named<'f>(files: &'f [Published], name: &[u8]) -> Option<&'f Published>
     files.iter().find(|file| file.name.as_slice() == name)
 }
 
-/// The file of this name.
+/// Returns the file `name`, or `None`.
 pub fn find_file<'f>(files: &'f [Published], name: &[u8]) -> Option<&'f Published>
     ensures { option_map publication (option_copied result) ≡ published name.now (map publication files.now) }
 {
     first_named(files, name)
 }
 
-/// Returns whether a file is published under this tag.
+/// Returns whether a file is published under this ETag.
 pub fn has_tag(files: &[Published], tag: &Tag) -> bool
     ensures { result ≡ list_any (λ file. bytes_eq file.tag tag.now) files.now }
 {
@@ -38,7 +38,7 @@ pub fn has_tag(files: &[Published], tag: &Tag) -> bool
         .any(|file| file.tag.as_bytes() == tag.as_bytes())
 }
 
-/// Stores a file at its place, or at the end.
+/// Stores a file at `place`, or at the end where that is `None`. Fails with `Memory` alone, and then changes nothing.
 pub fn put(
     files: &mut Vec<Published>,
     place: Option<usize>,
@@ -62,7 +62,7 @@ pub fn put(
     }
 }
 
-/// Whether there are 64 other names.
+/// Returns whether there is no file `name`, and there are 64 other names.
 pub fn is_crowded(files: &[Published], name: &[u8]) -> bool
     ensures { result
         ≡ (is_none (published name.now (map publication files.now)) && nat_le NAMES_LIMIT (length (map publication files.now))) }

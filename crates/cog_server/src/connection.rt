@@ -13,15 +13,15 @@ use http_range::{ANSWERS_LIMIT, MESSAGE_LIMIT, Memory};
 use std::alloc::Global;
 use std::marker::Model;
 
-/// Whether no answer follows.
+/// Returns whether no answer follows.
 fn closes(closed: bool, answers: usize) -> bool
     ensures { result ≡ (closed || answers == ANSWERS_LIMIT) }
 {
     closed || answers == ANSWERS_LIMIT
 }
 
-/// The server's end of one connection. One answer is on its way at a time, and what comes after its message waits to be answered.
-/// After the message with the last answer, what comes is dropped.
+/// The server's end of one connection. It sends one answer at a time, and keeps what came after the message until it
+/// can be answered. After the message with the last answer, what comes is dropped.
 pub struct Connection {
     held: PendingInput,
     outgoing: Outgoing,
@@ -31,7 +31,8 @@ pub struct Connection {
     dropped: usize,
 }
 
-// Written out, it is one call wherever a connection is let go; derived, each such place would be proved field by field.
+// Written out, the drop is one call in each place where a connection is dropped. Derived, each place would be proved
+// field by field.
 impl Drop for Connection {
     fn drop(self) {
         let Connection {
@@ -64,7 +65,7 @@ impl Model for Connection {
       tag = c.outgoing.tag;
     } };
 
-    // Where no answer waits, no file's bytes are held.
+    // Where no answer waits, no bytes of a file are held.
     ghost invariant = { λ c. (c.answers ≤ ANSWERS_LIMIT) × (c.dropped ≤ DROP_LIMIT)
         × (waiting_of c.outgoing ≡ [] → HoldsNone c.outgoing) };
 }
@@ -73,7 +74,7 @@ impl Connection {
     ghost use Rattle.cog_server.specs.Service.{service_of};
     ghost use Rattle.cog_server.specs.Status.{start, room_of, GoesOn, GoesOnBy, Rests, EndsBy, is_closing, after_bytes, after_end, after_write, is_drained, is_draining, is_idle, is_outdated};
 
-    /// A connection on which nothing came.
+    /// Makes a connection on which nothing came.
     ///
     /// ```
     /// let mut connection = Connection::new(rt.alloc());
@@ -94,7 +95,7 @@ impl Connection {
         }
     }
 
-    /// How many bytes may come next, at most 8,192. With none nothing is to be read.
+    /// Returns how many bytes may come next, at most 8,192. Where it is 0, nothing is to be read.
     pub fn room(&self) -> usize
         ensures is { result ≡ room_of self.now }
         ensures small { result ≤ MESSAGE_LIMIT }
@@ -108,7 +109,8 @@ impl Connection {
         }
     }
 
-    /// Takes bytes that came. After the last message they need no memory.
+    /// Takes bytes that came, at most `room` of them. Fails with `Memory` alone, and then changes nothing. It never
+    /// fails after the last message.
     pub fn came(&mut self, bytes: &[u8]) -> Result<(), Memory>
         requires { length bytes.now ≤ room_of self.old }
         ensures ok { OnOk result (self.new ≡ after_bytes bytes.now self.old) }
@@ -130,9 +132,9 @@ impl Connection {
         self.over = true;
     }
 
-    /// Answers the next message from the server as it stands now, and returns the status of the answer. Returns `None` where no message is
-    /// answered: none is whole, the answer before it isn't written, or no answer follows. An error changes nothing, and
-    /// comes only where a message is to be answered.
+    /// Answers the next message by the files of `server` at this moment, and returns the status code. Returns `None`
+    /// where no message is whole, an answer isn't written yet, or no answer follows. Fails with `Memory` alone, and
+    /// only where a message is to be answered. Then nothing changes.
     pub fn go_on(&mut self, server: &Server) -> Result<Option<u16>, Memory>
         ensures ok { IfOk result (GoesOn server.now.catalogue self.old self.new) }
         ensures err { OnErr result (self.new ≡ self.old) }
@@ -141,7 +143,7 @@ impl Connection {
         self.go_on_by(&Service::plain(server))
     }
 
-    /// Answers the next message as `go_on` does, by a service, which may add to the answer.
+    /// Answers the next message as `go_on` does, by the files and additions of a service.
     pub fn go_on_by(&mut self, service: &Service<'_>) -> Result<Option<u16>, Memory>
         ensures ok { IfOk result (GoesOnBy (service_of service.now) self.old self.new) }
         ensures err { OnErr result (self.new ≡ self.old) }
@@ -166,7 +168,8 @@ impl Connection {
         Ok(Some(status))
     }
 
-    /// Returns whether bytes of a file are kept for the answer that isn't written, and `server` publishes that file no more.
+    /// Returns whether bytes of a file are kept for an answer that isn't written yet, and `server` publishes that file
+    /// no more.
     pub fn is_outdated(&self, server: &Server) -> bool
         ensures { result ≡ is_outdated server.now.catalogue self.now }
     {
@@ -176,14 +179,14 @@ impl Connection {
         }
     }
 
-    /// What waits to be written, of a head and of a body. The body's bytes stay, whatever is published meanwhile.
+    /// Returns the bytes that wait to be written, of a head and of a body. They stay, whatever is published meanwhile.
     pub fn waiting(&self) -> (&[u8], &[u8])
         ensures { result.0.now ++ result.1.now ≡ self.now.waiting }
     {
         self.outgoing.parts()
     }
 
-    /// Notes that bytes of what waits are written.
+    /// Notes that the first `n` bytes that waited are written.
     pub fn wrote(&mut self, n: usize)
         requires { n ≤ length self.old.waiting }
         ensures { self.new ≡ after_write n self.old }
@@ -191,14 +194,14 @@ impl Connection {
         self.outgoing.wrote(n);
     }
 
-    /// How many answers were given.
+    /// Returns how many answers were given.
     pub fn answers(&self) -> usize
         ensures { result ≡ self.now.answers }
     {
         self.answers
     }
 
-    /// How the answers ended, once all of them are written.
+    /// Returns how the answers ended, once all of them are written. Returns `None` before.
     pub fn ended(&self) -> Option<Ended>
         ensures { EndsBy self.now result }
     {
@@ -217,21 +220,23 @@ impl Connection {
         None
     }
 
-    /// Whether no message has begun and no answer is unfinished, so that nothing is lost where the connection is let go.
+    /// Returns whether no message has begun and no answer is unfinished. Then nothing is lost where the connection is
+    /// closed.
     pub fn is_idle(&self) -> bool
         ensures { result ≡ is_idle self.now }
     {
         self.held.bytes.is_empty() && !self.outgoing.is_waiting()
     }
 
-    /// Whether the last answer is written, and only the peer's end is waited for.
+    /// Returns whether the last answer is written. Then only the end of the client's bytes is awaited.
     pub fn is_draining(&self) -> bool
         ensures { result ≡ is_draining self.now }
     {
         closes(self.closed, self.answers) && !self.outgoing.is_waiting()
     }
 
-    /// Whether nothing more may come: the input is at its end, or 65,536 bytes after the last message are dropped.
+    /// Returns whether nothing more may come: the input is at its end, or 65,536 bytes after the last message were
+    /// dropped.
     pub fn is_drained(&self) -> bool
         ensures { result ≡ is_drained self.now }
     {

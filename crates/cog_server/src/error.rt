@@ -7,6 +7,7 @@ pub enum PublishError {
     /// The name isn't 1 to 200 bytes of `A-Z a-z 0-9 . _ - /`.
     #[error("not a name of a file")]
     Name,
+    /// The file has no bytes.
     #[error("the file is empty")]
     Empty,
     /// The file has more than 67,108,864 bytes.
@@ -15,9 +16,10 @@ pub enum PublishError {
     /// The catalogue has 64 other names.
     #[error("there are 64 other names")]
     TooManyNames,
-    /// The epoch has no number left.
+    /// The epoch has no number left: it had 4,294,967,295 publications.
     #[error("the epoch has no number left")]
     Exhausted,
+    /// An allocation failed.
     #[error("out of memory")]
     Memory,
 }
@@ -26,7 +28,7 @@ impl PublishError {
     ghost use Rattle.std.specs.Prelude.{◌≡◌};
     ghost use Rattle.cog_server.specs.Server.{number_of_refusal};
 
-    /// The number under which the refusal is told, 1 to 6.
+    /// Returns the number of the error, 1 to 6.
     pub fn number(&self) -> u8
         ensures { result ≡ number_of_refusal self.now }
     {

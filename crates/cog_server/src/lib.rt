@@ -1,6 +1,6 @@
-//! A server of files by single byte ranges (RFC 9110, sections 9, 13, 14 and 15), for one epoch.
+//! Serves files by single byte ranges (RFC 9110, sections 9, 13, 14 and 15), for one epoch.
 //!
-//! `Server::new` and `file` take no memory. Lengths and positions are in bytes.
+//! `Server::new` and `file` allocate nothing. Lengths and positions are in bytes.
 #![tactic(auto)]
 
 mod additions;
@@ -27,8 +27,10 @@ pub use additions::Additions;
 pub use connection::Connection;
 pub use error::PublishError;
 pub use inlet::{Failed, Inlet, Outlet};
-pub use laws::{law_first_answers_begin, law_runs_are_answered, law_server_limits_are};
-pub use limits::DROP_LIMIT;
+pub use laws::{
+    law_first_answers_begin, law_heads_have_room, law_runs_are_answered, law_server_limits_are,
+};
+pub use limits::{DROP_LIMIT, HEAD_ROOM, ORIGIN_LIMIT};
 pub use scripted::{AfterBytes, AfterPieces, ScriptedInlet, ScriptedOutlet};
 pub use served::{Ended, ServeError, Served};
 pub use server::{Answer, Server};

@@ -1,4 +1,4 @@
-//! An answer on its way out.
+//! An answer that is being written.
 ghost use Rattle.std.specs.Prelude.{◌≡◌, ◌≤◌, ◌<◌, ◌++◌, ◌==◌, [], not, if◌then◌else◌, None, IfOk, OnOk, OnErr, codes, length, drop, option_copied, slice_range};
 ghost use Rattle.http_fields.specs.declared.limits.TheConstants.{ANSWERS_LIMIT};
 ghost use Rattle.http_fields.specs.Text.{closing, head_with};
@@ -9,6 +9,7 @@ ghost use Rattle.cog_server.specs.Service.{service_of};
 ghost use Rattle.cog_server.specs.Status.{tag_of};
 
 use crate::additions::{Additions, answers_preflight, closes_by, push_head, push_preflight};
+use crate::limits::HEAD_ROOM;
 use crate::placed::Prepared;
 use crate::prepared::{prepare, status};
 use crate::service::Service;
@@ -16,11 +17,8 @@ use http_range::{Memory, Tag};
 use std::alloc::Global;
 use std::rc::RcSlice;
 
-/// As many bytes as the longest head of an answer has, and some more.
-const HEAD_ROOM: usize = 800;
-
-/// The head of an answer, the part of the file that is its body, and how many bytes of both are written. The file's bytes stay
-/// while they are on their way; one room serves the heads of all answers.
+/// The head of an answer, the part of the file that is its body, and how many bytes of both are written. The file's
+/// bytes stay until they are written. One buffer serves the heads of all answers.
 #[derive(Drop)]
 pub struct Outgoing {
     pub head: Vec<u8>,
@@ -29,12 +27,12 @@ pub struct Outgoing {
     pub end: usize,
     pub sent: usize,
     pub close: bool,
-    /// The tag of the file.
+    /// The ETag of the file.
     pub tag: Option<Tag>,
 }
 
 impl Outgoing {
-    /// Nothing.
+    /// Returns one in which nothing waits.
     pub fn new(alloc: Global) -> Self
         ensures waiting { waiting_of result ≡ [] }
         ensures none { HoldsNone result }
@@ -50,7 +48,7 @@ impl Outgoing {
         }
     }
 
-    /// Drops what is there but for the room of the head.
+    /// Drops the answer, but keeps the buffer of the head.
     fn clear(&mut self)
         ensures empty { IsEmpty self.new }
         ensures waiting { waiting_of self.new ≡ [] }
@@ -63,7 +61,8 @@ impl Outgoing {
         self.tag = None;
     }
 
-    /// Puts the head of the answer to a preflight in the place of nothing, and returns its status. After an error the head may have a part.
+    /// Puts the head of the answer to a preflight where nothing waits, and returns its status code. Fails with `Memory`
+    /// alone. Then the head may have a part of it.
     fn put_preflight(&mut self, additions: Additions<'_>, close: bool) -> Result<u16, Memory>
         requires { IsEmpty self.old }
         ensures status { IfOk result (λ status. status ≡ 204) }
@@ -78,8 +77,8 @@ impl Outgoing {
         Ok(204)
     }
 
-    /// Puts a prepared answer in the place of nothing, and returns its status. Its body stays where it is. After an error the head may have
-    /// a part.
+    /// Puts a prepared answer where nothing waits, and returns its status code. Its body stays where it is. Fails with
+    /// `Memory` alone. Then the head may have a part of it.
     fn put(
         &mut self,
         prepared: &Prepared<'_>,
@@ -110,9 +109,9 @@ impl Outgoing {
         Ok(status(&prepared.reply))
     }
 
-    /// Puts what a service sends for the head at the front of a message, after `count` answers, in the place of what is there. Returns its
-    /// status. Its body stays where it is, its head is put together where the one before was. After an error nothing waits. Where nothing
-    /// waits, no file's bytes are held.
+    /// Puts the answer of a service to the head at the front of a message, after `count` answers, instead of what was
+    /// there. Returns its status code. The body isn't copied, and the head reuses the buffer of the one before. Fails
+    /// with `Memory` alone, and then nothing waits. Where nothing waits, no bytes of a file are held.
     pub fn answer(
         &mut self,
         service: &Service<'_>,
@@ -149,7 +148,7 @@ impl Outgoing {
         }
     }
 
-    /// What of the answer isn't written: of its head, and of its body.
+    /// Returns what isn't written of the answer: the rest of its head, and of its body.
     pub fn parts(&self) -> (&[u8], &[u8])
         ensures { result.0.now ++ result.1.now ≡ waiting_of self.now }
     {
@@ -159,7 +158,7 @@ impl Outgoing {
         (head, &body[skipped.min(body.len())..])
     }
 
-    /// Whether something isn't written.
+    /// Returns whether something isn't written.
     pub fn is_waiting(&self) -> bool
         ensures { result ≡ not (length (waiting_of self.now) == 0) }
     {
@@ -167,7 +166,7 @@ impl Outgoing {
         !head.is_empty() || !body.is_empty()
     }
 
-    /// Notes that some bytes are written. After the last one the file's bytes are held no longer.
+    /// Notes that the next `n` bytes are written. After the last one the file's bytes are no longer held.
     pub fn wrote(&mut self, n: usize)
         requires { n ≤ length (waiting_of self.old) }
         ensures waiting { waiting_of self.new ≡ drop n (waiting_of self.old) }
@@ -181,7 +180,7 @@ impl Outgoing {
     }
 }
 
-/// The bytes from one place to another, as far as they are there.
+/// Returns the bytes from place `first` on and before `end`, as far as they are there.
 fn range(bytes: &[u8], first: usize, end: usize) -> &[u8]
     ensures { result.now ≡ slice_range bytes.now first end }
 {

@@ -17,7 +17,7 @@ pub struct PendingInput {
 }
 
 impl PendingInput {
-    /// Nothing came.
+    /// Makes one to which nothing came.
     pub fn new(alloc: Global) -> Self
         ensures { result.bytes.items ≡ [] }
     {
@@ -28,7 +28,8 @@ impl PendingInput {
         }
     }
 
-    /// The length of the first message, if it is whole. Only bytes that are new are gone through.
+    /// Returns the length of the first message in bytes, or `None` where none is whole. Only new bytes are gone
+    /// through.
     pub fn whole(&mut self) -> Option<usize>
         ensures held { self.new.bytes.items ≡ self.old.bytes.items }
         ensures found { IfSome result (λ n. (n ≤ length self.new.bytes.items)
@@ -44,7 +45,7 @@ impl PendingInput {
         found
     }
 
-    /// Whether no message is whole.
+    /// Returns whether no message is whole.
     pub fn is_unfinished(&self) -> bool
         ensures yes { result ≡ true → IsUnfinished self.now.bytes.items }
         ensures no { result ≡ false → (message : List ℕ) × IsFirstMessage self.now.bytes.items message }
@@ -52,7 +53,7 @@ impl PendingInput {
         message_length(&self.bytes, self.scanned).is_none()
     }
 
-    /// Takes bytes in behind those that are held.
+    /// Adds bytes after those that are held. Fails with `Memory` alone, and then keeps what was held.
     pub fn add(&mut self, bytes: &[u8]) -> Result<(), Memory>
         requires { length self.old.bytes.items + length bytes.now ≤ MESSAGE_LIMIT }
         ensures ok { OnOk result (self.new.bytes.items ≡ self.old.bytes.items ++ bytes.now) }
@@ -64,7 +65,7 @@ impl PendingInput {
         Ok(())
     }
 
-    /// Lets the first bytes go.
+    /// Drops the first `n` bytes.
     pub fn skip(&mut self, n: usize)
         requires { n ≤ length self.old.bytes.items }
         ensures left { self.new.bytes.items ≡ drop n self.old.bytes.items }

@@ -6,8 +6,9 @@ ghost use Rattle.std.specs.Rc.{rc_slice_items};
 use http_range::{Reply, Tag};
 use std::rc::RcSlice;
 
-/// An answer: its reply, whether the connection ends with it, the name of the file whose tag it carries, and its body
-/// where it stands in the file, from `first` to `end`. Also whether the request is a preflight.
+/// An answer before its text is written: its reply, whether the connection ends with it, and whether the request is a
+/// preflight. `name` and `tag` are those of the file whose ETag it carries. Its body stands in `file`, from place
+/// `first` on and before `end`.
 #[derive(Drop)]
 pub struct Prepared<'f> {
     pub reply: Reply,

@@ -18,7 +18,7 @@ use crate::published::Published;
 use http_fields::bytes::past;
 use http_range::{Reply, Request, Resolved, read_request};
 
-/// The number of the reply's status.
+/// Returns the status code of a reply.
 pub fn status(reply: &Reply) -> u16
     ensures { result ≡ status_of reply.now }
 {
@@ -34,7 +34,7 @@ pub fn status(reply: &Reply) -> u16
     }
 }
 
-/// The answer to the head at the front of a message.
+/// Returns the answer to the head at the front of a message.
 pub fn prepare<'f>(files: &'f [Published], message: &[u8]) -> Prepared<'f>
     ensures { IsPrepared (map publication files.now) message.now result }
 {
@@ -48,7 +48,7 @@ pub fn prepare<'f>(files: &'f [Published], message: &[u8]) -> Prepared<'f>
     }
 }
 
-/// An answer without a body and without a tag.
+/// Returns an answer without a body and without an ETag.
 fn refuse<'f>(reply: Reply, close: bool) -> Prepared<'f>
     requires { tag_of reply ≡ None }
     ensures answer { response_of result ≡ refused reply close }
@@ -85,7 +85,7 @@ fn answer_request<'f>(files: &'f [Published], request: &Request<'_>) -> Prepared
     }
 }
 
-/// The answer to a request for a file that the server has.
+/// Returns the answer to a request for a file that the server has.
 fn serve_file<'f>(file: &'f Published, request: &Request<'_>) -> Prepared<'f>
     ensures { response_of result ≡ serve_file (Some (publication file.now)) request.now }
 {
@@ -103,7 +103,7 @@ fn serve_file<'f>(file: &'f Published, request: &Request<'_>) -> Prepared<'f>
     serve_part(file, part_to_serve(request, &file.tag, length), close)
 }
 
-/// An answer that carries the file's tag, and its bytes from `first` to `end`.
+/// Returns an answer that carries the file's ETag, with its bytes from place `first` on and before `end`.
 fn serve<'f>(
     file: &'f Published,
     reply: Reply,
@@ -134,7 +134,7 @@ fn serve<'f>(
     }
 }
 
-/// The part that was asked for, or the whole file.
+/// Returns the byte range that was asked for, or the whole file.
 fn serve_part<'f>(file: &'f Published, part: Resolved, close: bool) -> Prepared<'f>
     requires { IsInside part (length (rc_slice_items file.now.file)) }
     ensures { response_of result ≡ serve_part part (publication file.now) close }

@@ -7,8 +7,8 @@ ghost use Rattle.http_range.specs.Names.{is_name};
 use http_range::Tag;
 use std::rc::RcSlice;
 
-/// A file that the server has: its name, the tag under which it is served, and its bytes. They stay while an answer with them
-/// is on its way, whatever becomes of the file.
+/// A file that the server has: its name, the ETag under which it is served, and its bytes. The bytes stay until each
+/// answer with them is written, even if another file takes the name.
 #[derive(Drop)]
 pub struct Published {
     pub name: Vec<u8>,

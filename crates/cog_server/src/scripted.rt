@@ -1,4 +1,5 @@
-//! A connection by a script, for tests: which pieces its bytes come and go in, and what follows them.
+//! Connections that follow a script, for tests: the sizes of the pieces in which bytes come and go, and what follows
+//! them.
 ghost use Rattle.std.specs.Prelude.{◌≡◌, ◌≢◌, ◌≤◌, ◌<◌, ◌^◌, ◌↔◌, ◌||◌, ◌++◌, Some, ℕ, min, option_map, IfOk, IsErr, OnOk, true, false, is_err, length, take, drop, []};
 ghost use Rattle.cog_server.specs.Moved.{is_stopped, moved};
 
@@ -8,7 +9,9 @@ use std::alloc::Global;
 /// What follows the bytes of an inlet.
 #[derive(Clone, Copy, Debug, PartialEq, Eq)]
 pub enum AfterBytes {
+    /// The end of the input.
     End,
+    /// A failure.
     Failure,
 }
 
@@ -19,10 +22,11 @@ pub enum AfterPieces {
     All,
     /// It takes nothing.
     Zero,
+    /// It fails.
     Failure,
 }
 
-/// Gives its bytes in pieces of these sizes, and all others at once. A piece has one byte at least.
+/// Gives its bytes in pieces of these sizes, and then all others at once. A piece has at least one byte.
 #[derive(Drop)]
 pub struct ScriptedInlet {
     bytes: Vec<u8>,
@@ -37,7 +41,7 @@ pub struct ScriptedInlet {
 impl ScriptedInlet {
     ghost use Rattle.cog_server.specs.Scripted.{after_bytes, inlet_failed, inlet_pieces, next_piece, pieces_left, script_bytes, script_given, script_left};
 
-    /// One that hasn't given anything.
+    /// Makes an inlet that has given nothing yet.
     pub fn new(bytes: Vec<u8>, pieces: Vec<usize>, after: AfterBytes) -> Self
         ensures bytes { script_bytes result ≡ bytes.items }
         ensures pieces { inlet_pieces result ≡ pieces.items }
@@ -57,7 +61,7 @@ impl ScriptedInlet {
         }
     }
 
-    /// The size of the next piece.
+    /// Returns the size of the next piece.
     fn size(&self) -> usize
         ensures some { 1 ≤ result }
         ensures piece { take result (script_left self.now) ≡ next_piece (pieces_left self.now) (script_left self.now) }
@@ -80,7 +84,7 @@ impl Inlet for ScriptedInlet {
 
     ghost has_failed = { inlet_failed };
 
-    /// Gives the next piece, or as much of it as there is room for. Nothing fails before the bytes are all given.
+    /// Gives the next piece, or as much of it as `room` has room for. It fails only after all bytes were given.
     fn read(&mut self, room: &mut [u8]) -> Result<usize, Failed>
         ensures bound { IfOk result (λ n. n ≤ length room.new) }
         ensures bytes { script_given self.new ≡ script_given self.old ++ moved result room.new }
@@ -130,7 +134,7 @@ pub struct ScriptedOutlet {
 impl ScriptedOutlet {
     ghost use Rattle.cog_server.specs.Scripted.{after_pieces, next_taken, outlet_failed, outlet_pieces, script_taken, sizes_left};
 
-    /// One that hasn't taken anything.
+    /// Makes an outlet that has taken nothing yet.
     pub fn new(alloc: Global, pieces: Vec<usize>, after: AfterPieces) -> Self
         ensures pieces { outlet_pieces result ≡ pieces.items }
         ensures turn { sizes_left result ≡ pieces.items }
@@ -147,14 +151,14 @@ impl ScriptedOutlet {
         }
     }
 
-    /// The bytes that it has taken.
+    /// Returns the bytes that it has taken.
     pub fn taken(&self) -> &[u8]
         ensures { result.now ≡ script_taken self.now }
     {
         &self.taken
     }
 
-    /// The most bytes that it takes next. None where it fails.
+    /// Returns the most bytes that it takes next, or `None` where it fails.
     fn size(&self) -> Option<usize>
         ensures { (many : ℕ) → many < 2 ^ 64
             → option_map (min many) result ≡ next_taken (sizes_left self.now) (after_pieces self.now) many }
@@ -188,7 +192,7 @@ impl Outlet for ScriptedOutlet {
 
     ghost has_failed = { outlet_failed };
 
-    /// Takes as many bytes as the next piece says, or fails.
+    /// Takes as many bytes as the next piece has, or fails.
     fn write(&mut self, bytes: &[u8]) -> Result<usize, Failed>
         ensures bound { IfOk result (λ n. n ≤ length bytes.now) }
         ensures bytes { script_taken self.new ≡ script_taken self.old ++ moved result bytes.now }

@@ -1,4 +1,4 @@
-//! What the loop over a connection does: it reads what comes, and writes what waits.
+//! One step of the loop over a connection: it reads what comes, or writes what waits.
 ghost use Rattle.std.specs.Prelude.{◌≡◌, ◌≤◌, ◌<◌, ◌++◌, false, true, [], IfOk, IfErr, OnOk, length, max, take};
 ghost use Rattle.std.specs.Io.KnownBytes.{append_known};
 ghost use Rattle.http_fields.specs.declared.limits.TheConstants.{MESSAGE_LIMIT};
@@ -12,10 +12,10 @@ use crate::served::ServeError;
 use http_range::{MESSAGE_LIMIT, Memory};
 use std::alloc::Global;
 
-/// The most bytes of the write that has the head of an answer.
+/// The most bytes of the write that has the head of an answer, unless the head alone is longer.
 const FIRST_WRITE: usize = 16384;
 
-/// Where bytes are read into, and where the first write of each answer is put together.
+/// The buffer for bytes that are read, and the one in which the first write of each answer is put together.
 #[derive(Drop)]
 pub struct Buffers {
     pub room: Vec<u8>,
@@ -23,6 +23,7 @@ pub struct Buffers {
 }
 
 impl Buffers {
+    /// Makes the buffers. Fails with `Memory` alone.
     pub fn new(alloc: Global) -> Result<Self, Memory>
         ensures { IfOk result (λ b. MESSAGE_LIMIT ≤ length b.room.items) }
     {
@@ -33,7 +34,7 @@ impl Buffers {
     }
 }
 
-/// Writes some bytes.
+/// Writes all of `bytes`. Fails with `Write` where a write fails, or takes nothing.
 fn send<W: Outlet>(w: &mut W, bytes: &[u8]) -> Result<(), ServeError>
     requires { W.has_failed w.old ≡ false }
     ensures ok { OnOk result (IsWritten (W.taken w.old) (W.taken w.new) (W.has_failed w.new) bytes.now) }
@@ -54,8 +55,8 @@ fn send<W: Outlet>(w: &mut W, bytes: &[u8]) -> Result<(), ServeError>
     Ok(())
 }
 
-/// Puts the head of an answer, with as much of its body as fits into the first write, in the place of what the text held, and
-/// gives the rest of the body.
+/// Puts the head of an answer into `text`, with as much of its body as fits into the first write. What `text` held is
+/// dropped. Returns the rest of the body. Fails with `Memory` alone.
 fn first_write<'f>(text: &mut Vec<u8>, head: &[u8], body: &'f [u8]) -> Result<&'f [u8], Memory>
     ensures whole { IfOk result (λ rest. text.new.items ++ rest.now ≡ head.now ++ body.now) }
     ensures few { OnOk result (length text.new.items ≤ max FIRST_WRITE (length head.now)) }
@@ -69,7 +70,8 @@ fn first_write<'f>(text: &mut Vec<u8>, head: &[u8], body: &'f [u8]) -> Result<&'
     Ok(rest)
 }
 
-/// Writes all that waits on a connection, by way of a text that is used for each answer.
+/// Writes all that waits on a connection. `text` is a buffer, which is used for each answer. Fails with `Write` or
+/// `Memory`.
 pub fn send_waiting<W: Outlet>(
     connection: &mut Connection,
     text: &mut Vec<u8>,
@@ -88,7 +90,8 @@ pub fn send_waiting<W: Outlet>(
     Ok(())
 }
 
-/// Reads at most so many bytes into the front of a buffer, and says how many.
+/// Reads at most `room` bytes into the front of `buffer`, and returns how many, 0 at the end. Fails with `Read` where
+/// the read fails.
 fn read_some<R: Inlet>(r: &mut R, buffer: &mut [u8], room: usize) -> Result<usize, ServeError>
     requires some { 0 < room }
     requires within { room ≤ length buffer.old }
@@ -105,7 +108,7 @@ fn read_some<R: Inlet>(r: &mut R, buffer: &mut [u8], room: usize) -> Result<usiz
     }
 }
 
-/// Reads what comes next on a connection.
+/// Reads what comes next on a connection. Fails with `Read` or `Memory`.
 pub fn receive<R: Inlet>(
     connection: &mut Connection,
     buffer: &mut [u8],

@@ -7,16 +7,18 @@ use thiserror::Error;
 pub enum Ended {
     /// The last answer closes the connection.
     Closed,
-    /// There is no whole message left, and the input is at its end.
+    /// No whole message is left, and the input is at its end.
     EndOfInput,
-    /// A hundred answers are given, and none closes.
+    /// A hundred answers were given, and none of them closes the connection.
     Limit,
 }
 
 /// How many answers were written, and what ended them.
 #[derive(Clone, Copy, Debug, PartialEq, Eq)]
 pub struct Served {
+    /// The number of answers.
     pub answers: usize,
+    /// What ended them.
     pub ended: Ended,
 }
 
@@ -26,10 +28,10 @@ pub enum ServeError {
     /// A read failed. All whole messages before it are answered.
     #[error("can't read")]
     Read,
-    /// A write failed, or took nothing. A beginning of the answers is written.
+    /// A write failed, or took nothing. Some first bytes of the answers are written.
     #[error("can't write")]
     Write,
-    /// Whole answers to the first messages are written.
+    /// An allocation failed. Whole answers to the first messages are written.
     #[error("out of memory")]
     Memory,
 }
@@ -49,7 +51,7 @@ impl ServeError {
     ghost use Rattle.std.specs.Prelude.{◌≡◌};
     ghost use Rattle.cog_server.specs.Serve.{number_of_failure};
 
-    /// The number under which the failure is told, 1 to 3.
+    /// Returns the number of the failure, 1 to 3.
     pub fn number(self) -> u8
         ensures { result ≡ number_of_failure self }
     {

@@ -22,14 +22,18 @@ use std::alloc::Global;
 use std::marker::Model;
 use std::rc::RcSlice;
 
-/// An answer: its text, whether the connection ends with it, the name of the file whose tag it carries, its
-/// status, and how many of its bytes are body.
+/// An answer, as one text.
 #[derive(Drop)]
 pub struct Answer {
+    /// The bytes of the head and of the body.
     pub text: Vec<u8>,
+    /// Whether the connection ends with the answer.
     pub close: bool,
+    /// The name of the file whose ETag the answer carries.
     pub name: Option<Vec<u8>>,
+    /// The status code.
     pub status: u16,
+    /// The number of bytes of the body.
     pub body: u64,
 }
 
@@ -41,7 +45,8 @@ pub struct Server {
     files: Vec<Published>,
 }
 
-// Written out, it is one call wherever a server is let go; derived, each such place would be proved field by field.
+// Written out, the drop is one call in each place where a server is dropped. Derived, each place would be proved field
+// by field.
 impl Drop for Server {
     fn drop(self) {
         let Server {
@@ -63,7 +68,8 @@ impl Model for Server {
 }
 
 impl Server {
-    /// A server without files. Each start of a server wants a greater epoch, so that no tag is given twice.
+    /// Makes a server without files. Each start of a server needs a greater epoch than the one before, so that no ETag
+    /// is given twice.
     ///
     /// ```
     /// let mut server = Server::new(rt.alloc(), 1);
@@ -81,7 +87,7 @@ impl Server {
         }
     }
 
-    /// The epoch that it was made with.
+    /// Returns the epoch that it was made with.
     pub fn epoch(&self) -> u32
         ensures { result ≡ self.now.epoch }
     {
@@ -95,14 +101,14 @@ impl Server {
         self.count
     }
 
-    /// The files, each by its name.
+    /// Returns the files, each with its name.
     pub(crate) fn files(&self) -> &[Published]
         ensures { map publication result.now ≡ self.now.catalogue }
     {
         &self.files
     }
 
-    /// The bytes published last under a name.
+    /// Returns the bytes that were published last under `name`, or `None`.
     pub fn file(&self, name: &[u8]) -> Option<&[u8]>
         ensures { option_copied result ≡ option_map (λ p. p.file) (published name.now self.now.catalogue) }
     {
@@ -112,15 +118,20 @@ impl Server {
         }
     }
 
-    /// Publishes a file under a name, and gives the tag under which it is served. A refusal changes nothing: Name where it is no
-    /// name of 1 to 200 letters, digits and `._-/`, Empty and TooLarge by the file's length, TooManyNames past 64, Exhausted after
-    /// 4,294,967,295 publications of the epoch.
+    /// Publishes `file` under `name`, and returns the ETag under which it is served. Fails with the first of these that
+    /// holds, and then changes nothing:
+    /// - `Name`: the name isn't 1 to 200 letters, digits and `._-/`.
+    /// - `Empty`: the file has no bytes.
+    /// - `TooLarge`: the file has more than 67,108,864 bytes.
+    /// - `TooManyNames`: there are 64 other names.
+    /// - `Exhausted`: the epoch had 4,294,967,295 publications.
+    /// - `Memory`: an allocation failed.
     pub fn publish(&mut self, name: &[u8], file: Vec<u8>) -> Result<Tag, PublishError>
-        // It is refused by the first rule that holds, and by want of memory only where none does.
+        // It fails with the first rule that holds, and with `Memory` only where none does.
         ensures accepted { OnOk result (refusal_of self.old.count self.old.catalogue name.now file.items ≡ None) }
         ensures refused { IfErr result (IsRefusal (refusal_of self.old.count self.old.catalogue name.now file.items)) }
 
-        // The tag has the epoch and the number of the publication, and the file takes the place of the one of its name.
+        // The ETag has the epoch and the number of the publication. The file replaces the one of its name.
         ensures tag { IfOk result (λ tag. tag ≡ publication_tag self.old.epoch (self.old.count + 1)) }
         ensures ok { IfOk result (λ tag. self.new ≡ record {
           epoch = self.old.epoch;
@@ -150,7 +161,7 @@ impl Server {
         Ok(kept)
     }
 
-    /// Why the file isn't published.
+    /// Returns why the file isn't published, or `None`.
     fn refusal(&self, name: &[u8], file: &[u8]) -> Option<PublishError>
         ensures first { result ≡ refusal_of self.now.count self.now.catalogue name.now file.now }
         ensures room { result ≡ None → self.now.count < 4294967295 }
@@ -173,8 +184,8 @@ impl Server {
         None
     }
 
-    /// The answer to the head at the front of a message, whatever its bytes are (RFC 9110, section 15; `docs/PROFILE.md` has the
-    /// cases).
+    /// Returns the answer to the head at the front of a message, whatever its bytes are (RFC 9110, section 15).
+    /// `docs/PROFILE.md` has the cases. Fails with `Memory` alone.
     pub fn answer(&self, message: &[u8]) -> Result<Answer, Memory>
         ensures { IfOk result (IsAnswered self.now.catalogue message.now) }
     {
@@ -194,18 +205,19 @@ impl Server {
         })
     }
 
-    /// Answers the messages of a stream in order, up to and with the first answer that closes or the hundredth. A message that
-    /// isn't whole when the input ends gets no answer.
+    /// Answers the messages of a stream in order, up to the first answer that closes or the hundredth. A message that
+    /// isn't whole when the input ends gets no answer. Fails with `Read` where a read fails, with `Write` where a write
+    /// fails or takes nothing, or with `Memory`.
     pub fn serve<R: Inlet, W: Outlet>(&self, r: &mut R, w: &mut W) -> Result<Served, ServeError>
         requires reads { R.has_failed r.old ≡ false }
         requires writes { W.has_failed w.old ≡ false }
 
-        // What is written are the answers to what is read, however that was cut.
+        // What is written are the answers to what was read, however reads cut it.
         ensures served { (stream : List ℕ) × (text : List ℕ) × (R.given r.new ≡ append_known (R.given r.old) stream)
             × (W.taken w.new ≡ append_known (W.taken w.old) text)
             × Serves self.now.catalogue stream text (R.is_over r.new) result }
 
-        // Read and Write come where a read or a write failed, and only there.
+        // It fails with `Read` and `Write` exactly where a read or a write failed.
         ensures read { R.has_failed r.new ≡ read_failed result }
         ensures write { W.has_failed w.new ≡ write_failed result }
     {

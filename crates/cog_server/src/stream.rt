@@ -6,8 +6,8 @@ ghost use Rattle.cog_server.specs.Moved.{is_stopped};
 use crate::inlet::{Failed, Inlet, Outlet};
 use std::io::{Read, Write};
 
-/// A reader or a writer, and whether it has failed. Which bytes go through it isn't told. An interrupted call counts as one
-/// that failed.
+/// A reader or a writer, and whether it has failed. As an end of a connection it doesn't state which bytes go through
+/// it. A call that was interrupted counts as failed.
 #[derive(Drop)]
 pub struct Stream<T> {
     inner: T,
@@ -18,7 +18,7 @@ pub struct Stream<T> {
 impl<T> Stream<T> {
     ghost use Rattle.cog_server.specs.Scripted.{inner_of, stream_failed};
 
-    /// One that hasn't failed.
+    /// Makes a stream that hasn't failed.
     pub fn new(inner: T) -> Self
         ensures inner { inner_of result ≡ inner }
         ensures unfailed { stream_failed result ≡ false }
@@ -40,7 +40,7 @@ impl<R: Read> Inlet for Stream<R> {
 
     ghost has_failed = { λ s. s.failed };
 
-    /// What the inner reader gives, where its bytes are known.
+    /// Reads what the inner reader gives, where its bytes are known.
     fn read(&mut self, room: &mut [u8]) -> Result<usize, Failed>
         ensures bound { IfOk result (λ n. n ≤ length room.new) }
         ensures inner { ReadConsumes (R.remaining (inner_of self.old)) (R.remaining (inner_of self.new)) result room.new }
@@ -71,7 +71,7 @@ impl<W: Write> Outlet for Stream<W> {
 
     ghost has_failed = { λ s. s.failed };
 
-    /// What the inner writer takes, where its bytes are known.
+    /// Writes what the inner writer takes, where its bytes are known.
     fn write(&mut self, bytes: &[u8]) -> Result<usize, Failed>
         ensures bound { IfOk result (λ n. n ≤ length bytes.now) }
         ensures inner { WriteAppends (W.contents (inner_of self.old)) (W.contents (inner_of self.new)) result bytes.now }

@@ -113,6 +113,11 @@ anew_then files k d ns s t u bound same may last before v rest =
     λ behind. absurd (false≢true (last (subst (λ xs. Contains xs n) (sym (names_behind files k ns same)) behind))) in
     before v (subst (λ xs. ArePublishedAnew xs t v) (sym (rest_at files k d ns bound same)) (u, may, alone, rest))
 
+-- nothing changed
+pub stays_anew : (names : List (List ℕ)) (s : ServerState) → ArePublishedAnew names s s
+stays_anew [] s = refl
+stays_anew (name ∷ names) s = (s, inl refl, (λ _. refl), stays_anew names s)
+
 -- one is passed over
 pub passed_then : (files : List Watched) (k : ℕ) (ns : List (List ℕ)) (s t : ServerState) → k < length files → names files ≡ ns
     → ((v : ServerState) → ArePublishedAnew (drop k ns) t v → ArePublishedAnew ns s v)

@@ -1,7 +1,7 @@
 //! Serving: round by round, as connections come and are ready.
 ghost use Rattle.std.specs.Prelude.{◌≡◌, ◌≤◌, ℕ, [], OnOk, max};
 ghost use Rattle.cog_server.specs.Service.{added_of};
-ghost use Rattle.server_files.specs.Publishing.{KeepsOthersThan, names};
+ghost use Rattle.server_files.specs.Publishing.{ArePublishedAnew, KeepsOthersThan, names};
 ghost use Rattle.server_sockets.specs.Going.{AllWentOnOrStart};
 ghost use Rattle.server_sockets.specs.Places.{accepted_of, limits_of, places_of};
 
@@ -62,7 +62,7 @@ fn print_served<R: Print>(rt: &R, printed: u32, ended: u32) -> u32
 
 /// Serves each connection that is ready, accepts new ones, and looks at the files where one came. Serves first, so that each connection
 /// that the last wait reported has its turn before an idle one is closed.
-#[tactic(auto, using(crate::proofs::RoundLemmas::went_or_started))]
+#[tactic(auto, using(crate::proofs::RoundLemmas::went_or_started, crate::proofs::PublishingLemmas::stays_anew))]
 fn round<R: Files + Clock + Print + Eprint + AllocGlobal>(
     log: &mut AccessLog<'_, R>,
     server: &mut Server,
@@ -70,11 +70,14 @@ fn round<R: Files + Clock + Print + Eprint + AllocGlobal>(
     serving: &mut Serving,
     additions: Additions<'_>,
 ) -> Result<(), ServeFilesError<'static>>
-    // Who has a place had it, and went on from there by events of its own, or starts now. Each answer is from what was published before,
-    // with what is added.
+    // Each connection in the table went on from one that was there, or is new, as of some moment. Each answer is from what was published
+    // before, with what is added.
     ensures went { (now : ℕ) × AllWentOnOrStart (record { catalogue = server.old.catalogue; added = added_of additions.entry }) now
         (places_of serving.old) (places_of serving.new) }
     ensures limits { limits_of serving.new ≡ limits_of serving.old }
+    // Files are published anew in their order, each with other bytes than before, and none where no connection was accepted.
+    ensures anew { ArePublishedAnew (names files.old) server.old server.new }
+    ensures idle { accepted_of serving.new ≡ accepted_of serving.old → server.new ≡ server.old }
     ensures others { KeepsOthersThan (names files.old) server.old server.new }
     ensures names { names files.new ≡ names files.old }
 {

@@ -1,13 +1,21 @@
 -- What others know of a server's sockets.
-use Rattle.std.specs.Prelude.{◌≡◌, ◌≢◌, ◌<◌, ◌⊎◌, ◌+◌, ◌-◌, ◌*◌, ◌^◌, ◌≤◌, ℕ, [], length, false, true, min, slice_get, Option, None, Some, IfSome, IsSome, IsSomeAnd}
+use Rattle.std.specs.Prelude.{◌≡◌, ◌≢◌, ◌<◌, ◌⊎◌, ◌+◌, ◌-◌, ◌*◌, ◌^◌, ◌≤◌, ℕ, [], List, length, Contains, false, true, min, slice_get, Option, None, Some, IfSome, IsSome, IsSomeAnd}
 use Rattle.std.specs.declared.time.Duration.{Duration}
 use Rattle.std.specs.Duration.{as_nanos}
+use Rattle.mio.specs.declared.event.event.Event.{Event}
+use Rattle.mio.specs.Events.{items}
 use Rattle.server_connections.specs.declared.timed.Timed.{Timed}
 use Rattle.server_connections.specs.Table.{Table, timed_at}
 use Rattle.server_connections.specs.Yielding.{MayYield, TriesAt, WakesAt, Yields}
 use Rattle.server_sockets.specs.Turns.{HasStartedAt}
+use Rattle.server_sockets.specs.Waits.{IsQueued, sockets_of}
+use Rattle.server_sockets.specs.declared.events.TheConstants.{LISTENER}
 use Rattle.server_sockets.specs.declared.serving.Limits.{Limits}
 use Rattle.server_sockets.specs.declared.serving.Serving.{Serving}
+
+-- what the system reported in the last wait
+abbrev pub events_of : Serving → List Event
+events_of s = items s.events
 
 -- how many connections were accepted
 abbrev pub accepted_of : Serving → ℕ
@@ -113,6 +121,12 @@ AllStart now old new =
 abbrev pub StayOrStart : ℕ → Serving → Serving → Type 0
 StayOrStart now old new =
     (k : ℕ) (p : Timed) → timed_at k (places_of new) ≡ Some p → (timed_at k (places_of old) ≡ Some p) ⊎ HasStartedAt k now (places_of new)
+
+-- What the system reported is noted: each connection is queued for its turn, or gone, and of the listener it is remembered.
+pub record IsNoted (old new : Serving) : Type 0 where
+  pub heard : Contains (sockets_of (events_of new)) LISTENER.0 → new.accept_pending ≡ true
+  pub queued : (k : ℕ) → Contains (sockets_of (events_of new)) k → k ≢ LISTENER.0
+      → IsQueued k new.ready.items old.open_connections new.open_connections
 
 -- nobody is accepted, nobody gets a place, there are as many places, and none that ended is forgotten
 pub record NobodyComes (old new : Serving) : Type 0 where

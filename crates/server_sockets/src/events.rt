@@ -1,8 +1,11 @@
 //! The events of a wait.
-ghost use Rattle.std.specs.Prelude.{◌≡◌, ◌⊎◌, ◌≤◌, ℕ, Contains, None, Some};
+ghost use Rattle.std.specs.Prelude.{◌≡◌, ◌≢◌, ◌↔◌, ◌⊎◌, ◌≤◌, ℕ, Contains, IsTrue, None, Some};
+ghost use Rattle.mio.specs.Events.{items};
 ghost use Rattle.server_connections.specs.Table.{timed_at};
 ghost use Rattle.server_connections.specs.declared.timed.Timed.{Timed};
+ghost use Rattle.server_sockets.specs.declared.events.TheConstants.{LISTENER};
 ghost use Rattle.server_sockets.specs.Draining.{IsReadyAt};
+ghost use Rattle.server_sockets.specs.Waits.{IsQueued, sockets_of};
 
 use crate::open_connections::OpenConnections;
 use mio::{Events, Token};
@@ -14,9 +17,9 @@ pub const LISTENER: Token = Token(usize::MAX);
 /// Queues connection `number`, which is ready for its turn, unless it is queued already. Closes it where memory has no room to queue it.
 #[tactic(auto, using(crate::proofs::EventLemmas::pushed))]
 fn queue(number: u64, open_connections: &mut OpenConnections, ready: &mut VecDeque<u64>)
-    // It is in the queue, or was marked as queued before, or has no slot.
-    ensures noted { Contains ready.new.items number ⊎ (IsReadyAt number open_connections.old
-        ⊎ (timed_at number open_connections.new.connections.table.entries ≡ None)) }
+    ensures queued { IsQueued number ready.new.items open_connections.old open_connections.new }
+    ensures marked { (k : ℕ) → IsReadyAt k open_connections.new → (k ≡ number) ⊎ IsReadyAt k open_connections.old }
+    ensures kept { (k : ℕ) → Contains ready.old.items k → Contains ready.new.items k }
     ensures places { (k : ℕ) → timed_at k open_connections.old.connections.table.entries ≡ None
         → timed_at k open_connections.new.connections.table.entries ≡ None }
     ensures same { (k : ℕ) (p : Timed) → timed_at k open_connections.new.connections.table.entries ≡ Some p
@@ -39,6 +42,9 @@ pub fn note(
     open_connections: &mut OpenConnections,
     ready: &mut VecDeque<u64>,
 ) -> bool
+    ensures heard { IsTrue result ↔ Contains (sockets_of (items events.now)) LISTENER.0 }
+    ensures queued { (k : ℕ) → Contains (sockets_of (items events.now)) k → k ≢ LISTENER.0
+        → IsQueued k ready.new.items open_connections.old open_connections.new }
     ensures places { (k : ℕ) → timed_at k open_connections.old.connections.table.entries ≡ None
         → timed_at k open_connections.new.connections.table.entries ≡ None }
     ensures same { (k : ℕ) (p : Timed) → timed_at k open_connections.new.connections.table.entries ≡ Some p

@@ -239,6 +239,7 @@ impl OpenConnections {
         ensures counted { IsSome (timed_at number self.old.connections.table.entries) → ¬ DrainsAt number self.old
             → self.old.ended + 1 < 2 ^ 32 → self.new.ended ≡ self.old.ended + 1 }
         ensures none { timed_at number self.old.connections.table.entries ≡ None → self.new.ended ≡ self.old.ended }
+        ensures marked { (k : ℕ) → IsReadyAt k self.new → IsReadyAt k self.old }
     {
         if let Some(peer) = self.peers.remove(&number)
             && !peer.is_draining
@@ -275,6 +276,7 @@ impl OpenConnections {
         ensures once { IsReadyAt number self.old → result ≡ false }
         ensures noted { result ≡ false → (timed_at number self.old.connections.table.entries ≡ None) ⊎ IsReadyAt number self.old }
         ensures ready { IsReadyAt number self.new ⊎ (timed_at number self.new.connections.table.entries ≡ None) }
+        ensures others { (k : ℕ) → IsReadyAt k self.new → (k ≡ number) ⊎ IsReadyAt k self.old }
     {
         match self.peers.get_mut(&number) {
             Some(peer) if !peer.is_ready => {

@@ -21,7 +21,7 @@ mod waiting;
 
 use crate::answer_log::AnswerLog;
 use crate::drain::{DRAIN, Drain};
-use crate::events::{LISTENER, note};
+use crate::events::LISTENER;
 use crate::open_connections::OpenConnections;
 use crate::refusal::{AcceptError, Refusal, refusal_of};
 use crate::turn::Turn;
@@ -201,20 +201,6 @@ impl Serving {
         if may_keep_old {
             self.free_old_files(service.server, now);
         }
-    }
-
-    /// Waits until a connection is ready, one is in the listen backlog, or a moment comes at which something is due.
-    #[tactic(auto, using(crate::proofs::PlacesLemmas::nobody_yet))]
-    pub fn wait(&mut self, now: u64) -> io::Result<()>
-        ensures nobody { NobodyComes self.old self.new }
-        ensures same { NoneChanges self.old self.new }
-    {
-        let timeout = self.timeout(now);
-        self.poll.poll(&mut self.events, timeout)?;
-        if note(&self.events, &mut self.open_connections, &mut self.ready) {
-            self.accept_pending = true;
-        }
-        Ok(())
     }
 
     /// Returns whether a connection is to be accepted, and one may wait in the listen backlog.

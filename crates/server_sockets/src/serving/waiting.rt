@@ -1,16 +1,34 @@
 //! How long a server's sockets wait.
-ghost use Rattle.std.specs.Prelude.{◌≡◌, ◌≢◌, ◌+◌, ◌-◌, ◌*◌, ◌<◌, ◌≤◌, ◌⊎◌, [], IfSome, IsSomeAnd, None, false, slice_get, true};
+ghost use Rattle.std.specs.Prelude.{◌≡◌, ◌≢◌, ◌+◌, ◌-◌, ◌*◌, ◌<◌, ◌≤◌, ◌⊎◌, [], IfSome, IsSomeAnd, None, OnOk, false, slice_get, true};
 ghost use Rattle.std.specs.Duration.{as_nanos};
-ghost use Rattle.server_sockets.specs.Places.{IsLookedAt, IsWaitedFor, accepted_of, frees_of, limits_of, room_of, TriesBy, TriesIn, WakesBy, WakesIn};
+ghost use Rattle.server_sockets.specs.Places.{IsLookedAt, IsNoted, IsWaitedFor, NobodyComes, NoneChanges, accepted_of, frees_of, limits_of, room_of, TriesBy, TriesIn, WakesBy, WakesIn};
 
+use crate::events::note;
 use crate::moments::earlier;
 use crate::serving::Serving;
+use std::io;
 use std::time::Duration;
 
 /// How many milliseconds pass until a connection that couldn't be accepted is tried again.
 const RETRY: u64 = 1_000;
 
 impl Serving {
+    /// Waits until a connection is ready, one is in the listen backlog, or a moment comes at which something is due. Notes what the system
+    /// reports.
+    #[tactic(auto, using(crate::proofs::PlacesLemmas::nobody_yet))]
+    pub fn wait(&mut self, now: u64) -> io::Result<()>
+        ensures noted { OnOk result (IsNoted self.old self.new) }
+        ensures nobody { NobodyComes self.old self.new }
+        ensures same { NoneChanges self.old self.new }
+    {
+        let timeout = self.timeout(now);
+        self.poll.poll(&mut self.events, timeout)?;
+        if note(&self.events, &mut self.open_connections, &mut self.ready) {
+            self.accept_pending = true;
+        }
+        Ok(())
+    }
+
     /// Returns the moment at which a connection in the listen backlog is tried again, if one waits. That is the moment at which an open
     /// connection may be closed for it, or at which a socket is to be tried. Where no descriptor was left, it is a second from `now` at the
     /// latest. Where the system barred it, it is a second from `now`.
