@@ -1,4 +1,4 @@
-//! Looking ahead: behind what is missing of the range that is needed next, the blocks that follow it may be asked for too.
+//! Looking ahead: a request may go on, after the missing blocks of the next range, with blocks that later ranges need.
 ghost use Rattle.std.specs.Prelude.{◌≡◌, ◌+◌, ◌-◌, ◌*◌, ◌/◌, ◌<◌, ◌≤◌, ℕ, List, Some, false, slice_get};
 ghost use Rattle.extents.specs.declared.limits.TheConstants.{BLOCK_SIZE};
 ghost use Rattle.extents.specs.Block.{end_of};
@@ -15,7 +15,8 @@ use range_cache::{Cache, law_missing_is_exact};
 /// The most blocks that one request asks for.
 pub const MAX_BLOCKS: u64 = 65;
 
-/// Where a run of missing blocks ends that goes on in a range, before a limit.
+/// Returns the end of the run of missing blocks from block `from` on, as far as they lie in `range`. The end is the
+/// number of the block after the last one, at most `limit`.
 fn reach_in(cache: &Cache, range: Span, from: u64, limit: u64) -> u64
     requires { from ≤ limit }
     ensures low { from ≤ result }
@@ -31,7 +32,8 @@ fn reach_in(cache: &Cache, range: Span, from: u64, limit: u64) -> u64
     cache.run_end(from, to)
 }
 
-/// Where a run of missing blocks ends that goes on in the ranges that are known to be needed later, before a limit.
+/// Returns the end of the run of missing blocks from block `from` on. Each of its blocks lies in a range that is known
+/// to be needed later. The end is the number of the block after the last one, at most `limit`.
 pub(crate) fn reach(reader: &Reader, cache: &Cache, from: u64, limit: u64) -> u64
     requires low { from ≤ limit }
     requires inside { from * BLOCK_SIZE < file_length_of reader.now + BLOCK_SIZE }
@@ -58,7 +60,8 @@ pub(crate) fn reach(reader: &Reader, cache: &Cache, from: u64, limit: u64) -> u6
     end
 }
 
-/// The bytes of the blocks from one number up to another, the last of which begins in a file of `file_length` bytes.
+/// Returns the bytes of the blocks `from` up to, but not including, `to`. The last of them begins in a file of
+/// `file_length` bytes.
 pub(crate) fn span_of_blocks(from: u64, to: u64, file_length: u64) -> Span
     requires some { from < to }
     requires inside { to * BLOCK_SIZE < file_length + BLOCK_SIZE }
@@ -71,8 +74,9 @@ pub(crate) fn span_of_blocks(from: u64, to: u64, file_length: u64) -> Span
     }
 }
 
-/// What to ask for: the first unbroken run of missing blocks of the range that is needed next, `missing`, and behind it at most `ahead`
-/// blocks that are needed later. All have room beside the blocks of the range that are there.
+/// Returns the byte range to ask for. It begins with `missing`, the first run of missing blocks of `range`, which is
+/// needed next. At most `ahead` blocks that are needed later follow. All have room beside the blocks of `range` that
+/// are there.
 pub fn extend(reader: &Reader, cache: &Cache, range: Span, missing: Span, ahead: u32) -> Span
     requires missing { IsMissingWithRoom cache.now (file_length_of reader.now) (extent_of_span range) 0 missing }
     requires wanted { wanted reader.now ≡ Some (extent_of_span range) }

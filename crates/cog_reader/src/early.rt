@@ -1,4 +1,4 @@
-//! Asking early: what is asked for next, and then next again, where the answers before come whole.
+//! Asking early: what the next requests ask for, if the answers before them come whole.
 ghost use Rattle.std.specs.Prelude.{◌≡◌, ◌+◌, ◌-◌, ◌*◌, ◌/◌, ◌<◌, ◌≤◌, ◌^◌, false, true, ℕ, List, Some, IfOk, IfSome, MatchOption, length, slice_get};
 ghost use Rattle.std.specs.List.{All};
 ghost use Rattle.extents.specs.declared.limits.TheConstants.{BLOCK_SIZE};
@@ -15,8 +15,9 @@ use extents::{BLOCK_SIZE, Memory, Span};
 use range_cache::Cache;
 use std::alloc::Global;
 
-/// The blocks that one request asks for, and how to go on behind them: the first of the ranges wanted from now on that may lack more, and
-/// the block that neither it nor a later one may begin before.
+/// The run of blocks that one request asks for, and where to look for the next run. It has the blocks from `from` on
+/// and before `to`. `index` is the number of the first range that may lack further blocks, 0 for the range that is
+/// needed next. Neither that range nor a later one may begin before block `least`.
 #[derive(Clone, Copy)]
 struct Run {
     from: u64,
@@ -25,7 +26,8 @@ struct Run {
     least: u64,
 }
 
-/// The range that is wanted next, or the one that is wanted after `index` others, as far as it is known and ends in the file.
+/// Returns the range that is needed next, where `index` is 0. Else returns the one that is needed after `index` others.
+/// Returns `None` where it isn't known, or ends after the file.
 fn range_at(reader: &Reader, index: u32) -> Option<Span>
     ensures known { IsRangeIn (file_length_of reader.now) (known_at reader.now index) result }
     ensures comes { (f : List ℕ) → ReaderAgrees reader.now f
@@ -37,8 +39,9 @@ fn range_at(reader: &Reader, index: u32) -> Option<Span>
     }
 }
 
-/// The run of blocks that is asked for in one of these ranges, of which those before `from` are there then, and behind it: as `extend`
-/// does.
+/// Returns the run of missing blocks to ask for, from block `from` of `range` on. The blocks of `range` before it will
+/// be there by then. At most `ahead` blocks that are needed later follow, as in `extend`. Returns `None` where block
+/// `from` is there, or nothing has room.
 fn run_in(
     reader: &Reader,
     cache: &Cache,
@@ -76,7 +79,7 @@ fn run_in(
     })
 }
 
-/// Whether a block is there.
+/// Returns whether block `block` is there.
 fn is_there(cache: &Cache, block: u64) -> bool
     requires { block + 1 < 2 ^ 64 }
     ensures { result ≡ has block (numbers cache.now.entries) }
@@ -84,7 +87,7 @@ fn is_there(cache: &Cache, block: u64) -> bool
     cache.run_end(block, block + 1) == block
 }
 
-/// A block from a number on, before another one, that isn't there: the first one.
+/// Returns the first missing block from `from` on and before `to`, or `None`.
 fn first_gap(cache: &Cache, from: u64, to: u64) -> Option<u64>
     ensures within { IfSome result (λ n. (from ≤ n) × (n < to)) }
     ensures gone { IfSome result (λ n. has n (numbers cache.now.entries) ≡ false) }
@@ -100,7 +103,8 @@ fn first_gap(cache: &Cache, from: u64, to: u64) -> Option<u64>
     None
 }
 
-/// The run of blocks that is asked for after another one, where its answer comes whole, and the ranges stand in the order of the file.
+/// Returns the run of blocks to ask for after `last`, if the answer for `last` comes whole. Returns `None` where no
+/// such run is known, or the ranges don't stand in the order of the file.
 fn next_run(reader: &Reader, cache: &Cache, last: Run, ahead: u32) -> Option<Run>
     requires { last.to < 2 ^ 60 }
     ensures needed { IfSome result (λ run. AreNeededLater (work reader.now cache.now) ahead run.from run.to) }
@@ -129,8 +133,9 @@ fn next_run(reader: &Reader, cache: &Cache, last: Run, ahead: u32) -> Option<Run
     None
 }
 
-/// What is asked for behind `asked`, one request after another, as far as it is known: at most `most`. Each request asks for at most
-/// `ahead` blocks behind the run of missing blocks that it begins with in a range. `Memory` is the only error.
+/// Returns the byte ranges of at most `most` requests that follow the one for `asked`, as far as they are known. Each
+/// begins with a run of missing blocks in a range. At most `ahead` further blocks follow this run. Fails with `Memory`
+/// alone.
 pub fn early_spans(
     alloc: Global,
     reader: &Reader,
@@ -142,8 +147,8 @@ pub fn early_spans(
     ensures early { IfOk result (λ spans. All (IsEarly (work reader.now cache.now) ahead asked) spans.items) }
     ensures apart { IfOk result (λ spans. AreApart spans.items) }
     ensures few { IfOk result (λ spans. length spans.items ≤ most) }
-    // Before each of them nothing that is missing is left out, of the ranges that are wanted from now on, as far as they are known, up to
-    // the one that it begins in.
+    // Before each of them no missing block of a known range is left out. This is said of the ranges that are needed
+    // from now on, up to the one that it begins in.
     ensures order { IfOk result (λ spans. All (LeavesNothing (work reader.now cache.now) asked spans.items) spans.items) }
 {
     let mut spans = Vec::new(alloc);

@@ -8,7 +8,7 @@ use std::alloc::Global;
 use std::marker::Model;
 use tiff_dir::{GeoPlaces, Place};
 
-/// The geo fields that a file has: where they stand, how many were read, and the bytes of those, one after the other.
+/// The geo fields that a file has: their places, how many were read, and the bytes of those, one after the other.
 #[derive(Drop)]
 pub struct GeoFields {
     places: GeoPlaces,
@@ -26,18 +26,25 @@ impl Model for GeoFields {
     ghost invariant = { λ x. AreFields x.places x.given x.bytes.items };
 }
 
-/// The bytes of the six fields; those of an absent one are none.
+/// The bytes of the six fields. An absent field has none.
 #[derive(Clone, Copy)]
 pub struct FieldBytes<'a> {
+    /// GeoKeyDirectory (34735).
     pub directory: &'a [u8],
+    /// GeoDoubleParams (34736).
     pub doubles: &'a [u8],
+    /// GeoAsciiParams (34737).
     pub ascii: &'a [u8],
+    /// ModelPixelScale (33550).
     pub scale: &'a [u8],
+    /// ModelTiepoint (33922).
     pub tiepoints: &'a [u8],
+    /// ModelTransformation (34264).
     pub transformation: &'a [u8],
 }
 
-/// The place with this number among those that are there, in the order in which they are read.
+/// Returns the place of field `n`, from 0, of those that the file has. They are counted in the order in which they are
+/// read.
 fn nth_place(places: &GeoPlaces, n: usize) -> Option<Place>
     ensures { result ≡ slice_get (present_in places.now) n }
 {
@@ -60,7 +67,7 @@ fn nth_place(places: &GeoPlaces, n: usize) -> Option<Place>
     None
 }
 
-/// Cuts a field's bytes off the front.
+/// Cuts a field's bytes off the front. Returns them, and the rest.
 fn cut(place: Option<Place>, bytes: &[u8]) -> (&[u8], &[u8])
     requires { len_of_field place ≤ length bytes.now }
     ensures front { result.0.now ≡ take (len_of_field place) bytes.now }
@@ -73,7 +80,7 @@ fn cut(place: Option<Place>, bytes: &[u8]) -> (&[u8], &[u8])
 }
 
 impl GeoFields {
-    /// None of them was read.
+    /// Makes the fields at `places`, none of which was read.
     pub fn new(alloc: Global, places: GeoPlaces) -> GeoFields
         requires { AreTyped places }
         ensures { result ≡ record { places = places; given = 0; bytes = [] } }
@@ -85,7 +92,7 @@ impl GeoFields {
         }
     }
 
-    /// Where the fields stand.
+    /// Returns the places of the fields.
     pub fn places(&self) -> GeoPlaces
         ensures places { result ≡ self.now.places }
         ensures typed { AreTyped self.now.places }
@@ -93,7 +100,7 @@ impl GeoFields {
         self.places
     }
 
-    /// Where the next field stands that is to be read.
+    /// Returns the place of the next field to be read, or `None` where all were read.
     pub fn next(&self) -> Option<Place>
         ensures next { result ≡ slice_get (present_in self.now.places) self.now.given }
         ensures typed { AreTyped self.now.places }
@@ -103,7 +110,7 @@ impl GeoFields {
         nth_place(&self.places, self.given)
     }
 
-    /// Where the field stands that is read after the next one and `index` more.
+    /// Returns the place of the field that is read after the next one and `index` more, or `None`.
     pub fn upcoming(&self, index: u32) -> Option<Place>
         ensures place { result ≡ slice_get (present_in self.now.places) (self.now.given + 1 + index) }
         ensures typed { AreTyped self.now.places }
@@ -111,7 +118,7 @@ impl GeoFields {
         nth_place(&self.places, self.given + 1 + index as usize)
     }
 
-    /// Takes the bytes of the next field.
+    /// Takes the bytes of the next field. Fails with `Memory` alone, and then changes nothing.
     pub fn give(&mut self, bytes: &[u8]) -> Result<(), Memory>
         requires { IsSomeAnd (slice_get (present_in self.old.places) self.old.given) (λ p. length bytes.now ≡ p.len) }
         ensures given { OnOk result (self.new ≡ record self.old { given = self.old.given + 1; bytes = self.old.bytes ++ bytes.now }) }
@@ -124,7 +131,7 @@ impl GeoFields {
         Ok(())
     }
 
-    /// The bytes of each field. All were read.
+    /// Returns the bytes of each field. All were read.
     pub fn parts(&self) -> FieldBytes<'_>
         requires { self.now.given ≡ length (present_in self.now.places) }
         ensures typed { AreTyped self.now.places }

@@ -7,7 +7,8 @@ use extents::Memory;
 use std::alloc::Global;
 use tiff_dir::Query;
 
-/// The answer to a query of a TIFF file in memory, a fault of the file included. `Memory` is the only error.
+/// Returns the answer to `query` of the TIFF file `file`, which is in memory. A fault of the file is an answer, too.
+/// Fails with `Memory` alone.
 ///
 /// ```
 /// let query = Query::Window { x: 0, y: 0, w: 16, h: 16, pick: Pick::Level(0) };

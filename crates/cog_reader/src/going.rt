@@ -24,7 +24,7 @@ fn span_of(missing: Missing) -> Span
     }
 }
 
-/// Gives the reader the range that it wants by a copy of it, for which there is room.
+/// Copies the range that the reader needs into `out`, and gives it to the reader. `out` has the length of the range.
 fn give_copy(reader: &mut Reader, cache: &Cache, first: u64, out: &mut [u8]) -> Result<(), Memory>
     requires wanted { IsWanted reader.old (length out.old) }
     requires fits { first + length out.old < 2 ^ 64 }
@@ -35,7 +35,7 @@ fn give_copy(reader: &mut Reader, cache: &Cache, first: u64, out: &mut [u8]) -> 
     reader.give(out)
 }
 
-/// Has so many bytes in a buffer, at least.
+/// Makes the buffer at least `len` bytes long.
 fn grow(buffer: &mut Vec<u8>, len: usize) -> Result<(), Memory>
     ensures long { OnOk result (len ≤ length buffer.new.items) }
     ensures room { length buffer.new.items ≤ max (length buffer.old.items) len }
@@ -46,9 +46,9 @@ fn grow(buffer: &mut Vec<u8>, len: usize) -> Result<(), Memory>
     Ok(())
 }
 
-/// Gives the reader the range that it wants, of so many bytes, all of which the cache has. Tiles, plain and packed, are taken out of the
-/// blocks where they lie; what has to be in one piece is copied to a buffer, which is kept from one range to the next. Plain tiles want no
-/// memory.
+/// Gives the reader the range that it needs, of `len` bytes, all of which the cache has. Tiles are taken out of the
+/// blocks where they lie. What has to be in one piece is copied to `buffer`, which is kept from one range to the next.
+/// Plain tiles allocate nothing.
 fn give_held(
     reader: &mut Reader,
     cache: &Cache,
@@ -77,7 +77,8 @@ fn give_held(
     Ok(())
 }
 
-/// Gives the reader the range that it wants, where the cache has it, and else tells the first unbroken run of missing blocks of it.
+/// Gives the reader the range that it needs, `span`, where the cache has it. Else returns the first run of missing
+/// blocks in it.
 fn give_next(
     reader: &mut Reader,
     cache: &mut Cache,
@@ -103,12 +104,13 @@ fn give_next(
     }
 }
 
-/// Gives the reader one range after another, as far as the cache has them, and says what to ask for then: the first unbroken run of
-/// missing blocks of the next range, and at most `ahead` blocks behind it that are needed later.
+/// Gives the reader one range after another, as far as the cache has them, and returns the byte range to ask for then.
+/// It begins with the first run of missing blocks of the next range. At most `ahead` blocks that are needed later
+/// follow. Returns `None` where the query is answered, or none is asked.
 ///
-/// `buffer` is room for what has to stand in one piece: it may hold anything, and gets no longer than 1,048,576 bytes, if it wasn't. After
-/// a refusal (`Memory`, the only error) the reader has taken the ranges that it was given until then, the same blocks are there, and it may
-/// be called again.
+/// `buffer` may hold anything. What has to stand in one piece is copied there. It gets no longer than 1,048,576 bytes,
+/// unless it was longer before. Fails with `Memory` alone. Then the reader has taken the ranges that it was given so
+/// far, and the cache has the same blocks. The call may be repeated.
 pub fn fill(
     reader: &mut Reader,
     cache: &mut Cache,

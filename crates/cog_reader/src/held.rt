@@ -6,7 +6,7 @@ ghost use Rattle.range_cache.specs.Cache.{block_at, bytes_at, left_in};
 use crate::Bytes;
 use range_cache::Cache;
 
-/// So many bytes of a file, from a position on, as the blocks of a cache have them.
+/// The `len` bytes of a file from position `first` on, as the blocks of a cache have them.
 #[derive(Drop)]
 pub struct HeldRange<'a> {
     pub cache: &'a Cache,
@@ -16,7 +16,7 @@ pub struct HeldRange<'a> {
 }
 
 impl<'a> HeldRange<'a> {
-    /// Those `len` bytes from `first` on.
+    /// Returns the `len` bytes from position `first` on.
     pub fn new(cache: &'a Cache, first: u64, len: usize) -> HeldRange<'a>
         requires { first + len < 2 ^ 64 }
         ensures cache { result.cache.now ≡ cache.now }
@@ -29,7 +29,7 @@ impl<'a> HeldRange<'a> {
 impl Bytes for HeldRange<'_> {
     ghost bytes = { λ r. bytes_at r.cache.now r.first r.len };
 
-    // As many as the block has from there on.
+    // As many bytes as the block has from there on.
     ghost piece_len = { λ r at.
         left_in (block_at ((r.first + at) / BLOCK_SIZE) r.cache.now.entries) ((r.first + at) % BLOCK_SIZE) (r.len - at) };
 

@@ -1,4 +1,4 @@
-//! What georeferences an image, by the bytes of its geo fields.
+//! What georeferences an image, read from the bytes of its geo fields.
 ghost use Rattle.std.specs.Prelude.{◌≡◌, ◌%◌, ℕ, List, IfErr, IfOk, length, map};
 ghost use Rattle.std.specs.Option.{option_map};
 ghost use Rattle.tiff_dir.specs.Walk.{WalkAgrees, HasEnded};
@@ -14,7 +14,7 @@ use geokeys::{Geo, GeoError, doubles};
 use std::alloc::Global;
 use tiff_dir::{Level, Order, Place, Walk, law_what_comes};
 
-/// The sides of the levels.
+/// Returns the sides of the levels: their widths and lengths in pixels.
 fn sides(alloc: Global, levels: &[Level]) -> Result<Vec<(u32, u32)>, Memory>
     ensures { IfOk result (λ v. v.items ≡ map level_sides levels.now) }
 {
@@ -26,7 +26,7 @@ fn sides(alloc: Global, levels: &[Level]) -> Result<Vec<(u32, u32)>, Memory>
     )
 }
 
-/// The items of a field that stands somewhere.
+/// Returns the items of a field, or `None` where it is absent.
 fn items(
     alloc: Global,
     order: Order,
@@ -42,7 +42,8 @@ fn items(
     }
 }
 
-/// What the file says, whose geo fields were all read, or what is wrong with its keys.
+/// Returns what Info says of the file, whose geo fields were all read. Fails with the fault of its keys, or with
+/// `Memory`.
 pub fn info(alloc: Global, walk: &Walk, fields: &GeoFields) -> Result<Info, GeoError>
     requires ended { HasEnded walk.now }
     requires read { fields.now.given ≡ length (present_in fields.now.places) }

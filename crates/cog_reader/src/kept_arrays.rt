@@ -1,4 +1,4 @@
-//! The tile arrays of the level last read.
+//! The tile arrays of the level that was read last.
 ghost use Rattle.std.specs.Prelude.{◌≡◌, ◌+◌, ℕ, ⊤, List, Some, IsSomeAnd, OnErr, OnOk, length, slice_get};
 ghost use Rattle.tiff_dir.specs.Described.{layout_of};
 ghost use Rattle.tiff_dir.specs.File.{order_of};
@@ -14,12 +14,14 @@ use std::mem;
 use tiff_dir::{Level, Order, Place};
 use tile_plan::Arrays;
 
-/// The arrays of the level last read, as far as they were read, with the level's number.
+/// The arrays of the level that was read last, as far as they were read, with the level's number.
 #[derive(Drop)]
 pub enum KeptArrays {
+    /// None of them was read.
     Nothing,
     /// The offsets alone.
     Offsets(usize, Vec<u8>),
+    /// The offsets and the byte counts.
     Both(usize, Arrays),
 }
 
@@ -34,7 +36,7 @@ pub enum NextArray<'a> {
 impl KeptArrays {
     ghost use Rattle.cog_reader.specs.NextArray.{IsNextArray};
 
-    /// The array of a level that is read next.
+    /// Returns the array of level `number` that is read next.
     pub fn next(&self, number: usize, level: &Level) -> NextArray<'_>
         ensures { IsNextArray self.now number level.now result }
     {
@@ -45,7 +47,7 @@ impl KeptArrays {
         }
     }
 
-    /// Where the array of a level stands that is read after the next one.
+    /// Returns the place of the array of level `number` that is read after the next one, or `None`.
     pub fn after_next(&self, number: usize, level: &Level) -> Option<Place>
         ensures { result ≡ array_after self.now number level.now }
     {
@@ -56,7 +58,7 @@ impl KeptArrays {
         }
     }
 
-    /// The arrays of a level, both of which are kept.
+    /// Returns the arrays of a level, both of which are kept.
     pub fn both(&self) -> &Arrays
         requires { HasBoth self.now (λ _. ⊤) }
         ensures { (n : ℕ) × (self.now ≡ kept.Both n result.now) }
@@ -67,7 +69,7 @@ impl KeptArrays {
         }
     }
 
-    /// With the next array of a level, in the place of what was kept of another level.
+    /// Adds the next array of level `number`, instead of what was kept of another level.
     fn with(self, number: usize, order: Order, level: &Level, array: Vec<u8>) -> KeptArrays
         requires wanted { IsSomeAnd (next_array self number level.now) (λ p. length array.items ≡ p.len) }
         requires offsets { HoldsOffsets self number level.now }
@@ -93,7 +95,7 @@ impl KeptArrays {
         }
     }
 
-    /// Adds the bytes of the next array of a level.
+    /// Adds the bytes of the next array of level `number`. Fails with `Memory` alone, and then changes nothing.
     pub fn add(
         &mut self,
         alloc: Global,

@@ -1,4 +1,5 @@
-//! One query answered from one file, range by range: whole ranges are given, or taken from a cache of the file's blocks.
+//! Answers one query after another of one file, range by range. Each range is given whole, or taken from a cache of the
+//! file's blocks.
 #![tactic(auto)]
 
 mod ahead;

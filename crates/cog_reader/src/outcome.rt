@@ -1,36 +1,36 @@
-//! What a query is answered with.
+//! The answers to queries.
 use geokeys::Geo;
 use tiff_dir::FileFault;
 
-/// The samples of a window: `w` columns and `h` rows, pixel by pixel, row by row. A sample of 16 bits has two bytes, the most
-/// significant one first.
+/// The samples of a window of `w` columns and `h` rows. They stand pixel by pixel, row by row. A sample of 16 bits has
+/// two bytes, the most significant one first.
 #[derive(Debug, Drop, PartialEq, Eq)]
 pub struct Window {
-    /// Columns.
+    /// The number of columns.
     pub w: u32,
-    /// Rows.
+    /// The number of rows.
     pub h: u32,
     /// SamplesPerPixel (277), 1 or 3.
     pub samples: u16,
     /// BitsPerSample (258), 8 or 16.
     pub bits: u16,
-    /// `w * h * samples` samples of one or two bytes.
+    /// The samples, `w * h * samples` of one or two bytes each.
     pub pixels: Vec<u8>,
 }
 
-/// What georeferences an image (OGC 19-008). Numbers of eight bytes are DOUBLEs (TIFF 6.0, section 2), with the most
-/// significant byte first.
+/// The sizes of an image's levels, and what georeferences it (OGC 19-008). Numbers of eight bytes are DOUBLEs (TIFF
+/// 6.0, section 2), the most significant byte first.
 #[derive(Debug, Drop, PartialEq, Eq)]
 pub struct Info {
     /// ImageWidth and ImageLength of each level, in pixels.
     pub sides: Vec<(u32, u32)>,
-    /// The keys of the key directory (34735).
+    /// The keys of GeoKeyDirectory (34735).
     pub geo: Geo,
-    /// The numbers of ModelPixelScale (33550), where it is there: three.
+    /// The three numbers of ModelPixelScale (33550), or `None` where the file has no such field.
     pub scale: Option<Vec<[u8; 8]>>,
-    /// Those of ModelTiepoint (33922): six for each point.
+    /// The numbers of ModelTiepoint (33922), six for each point, or `None`.
     pub tiepoints: Option<Vec<[u8; 8]>>,
-    /// Those of ModelTransformation (34264): sixteen, row by row.
+    /// The sixteen numbers of ModelTransformation (34264), row by row, or `None`.
     pub transformation: Option<Vec<[u8; 8]>>,
 }
 
@@ -52,10 +52,10 @@ impl Info {
 /// The answer to a query of a file.
 #[derive(Debug, Drop, PartialEq, Eq)]
 pub enum Outcome {
-    /// The window's samples.
+    /// The samples of the window.
     Window(Window),
-    /// The sides of the levels, and what georeferences the image.
+    /// The sizes of the levels, and what georeferences the image.
     Info(Info),
-    /// This is wrong with the file, or with what is asked of it.
+    /// What is wrong with the file, or with the query.
     Fault(FileFault),
 }

@@ -8,9 +8,9 @@ use std::marker::Model;
 use tiff_dir::{Compression, Level, Query, Walk};
 use tile_plan::{Bytes, TileCache};
 
-/// A reader of one TIFF file of a known length, which answers one query after another. It says which bytes it needs next, and is
-/// given them, until the query is answered. The directories, and the tile arrays of the level last read, are kept from one
-/// query to the next; and tiles unpacked, where it is made by `keeping`.
+/// A reader of one TIFF file of a known length. It answers one query after another. It returns the bytes that it needs
+/// next, and is given them, until the query is answered. From one query to the next it keeps the directories, and the
+/// tile arrays of the level that was read last. It keeps unpacked tiles too, where `keeping` made it.
 pub struct Reader {
     alloc: Global,
     file_length: u64,
@@ -20,7 +20,8 @@ pub struct Reader {
     pending: Option<PendingQuery>,
 }
 
-// Written out, it is one call wherever a reader is let go; derived, each such place would be proved field by field.
+// Written out, the drop is one call in each place where a reader is dropped. Derived, each place would be proved field
+// by field.
 impl Drop for Reader {
     fn drop(self) {
         let Reader {
@@ -56,7 +57,8 @@ impl Reader {
     ghost use Rattle.tiff_dir.specs.Window.{is_packed};
     ghost use Rattle.tile_plan.specs.TileCache.{size_of_tiles};
 
-    /// A reader of a file of `file_length` bytes, of which nothing is known yet, and nothing asked. It takes no memory.
+    /// Makes a reader of a file of `file_length` bytes. Nothing is known of the file yet, and nothing is asked. It
+    /// allocates nothing.
     ///
     /// ```
     /// let mut reader = Reader::new(rt.alloc(), file.len() as u64);
@@ -76,8 +78,9 @@ impl Reader {
         Reader::keeping(alloc, file_length, 0)
     }
 
-    /// The same, and from one window to the next it keeps the tiles unpacked that were used last, of at most so many bytes in all. Where
-    /// there is no memory for a tile, that is unpacked again.
+    /// Makes a reader as `new` does, which keeps the unpacked tiles that were used last from one window to the next.
+    /// All of them have at most `bytes` bytes together. A tile for which there is no memory is unpacked again. It
+    /// allocates nothing.
     pub fn keeping(alloc: Global, file_length: u64, bytes: usize) -> Reader
         ensures agrees { (f : List ℕ) → length f ≡ file_length → ReaderAgrees result f }
         ensures tiles { tiles_of result ≡ record { most = bytes; tiles = [] } }
@@ -95,17 +98,18 @@ impl Reader {
         }
     }
 
-    /// The tiles that are kept have no more bytes together than they may. It does nothing: its contract is the law.
+    /// Does nothing: its contract says that the tiles that are kept have together no more bytes than they may.
     pub fn no_more_is_kept(&self)
         ensures { size_of_tiles (tiles_of self.now).tiles ≤ (tiles_of self.now).most }
     {
         self.tile_cache.no_more_is_kept();
     }
 
-    /// Asks a query, in the place of the one before, whose state goes. It takes no memory.
+    /// Asks `query` instead of the one before, whose state is dropped. It allocates nothing.
     pub fn open(&mut self, query: Query)
         ensures agrees { (f : List ℕ) → ReaderAgrees self.old f → ReaderAgrees self.new f }
-        // What the query needs is to come, but for the directories and the arrays that are held. These stay, and the tiles that are kept.
+        // What the query needs is to come, but for the directories and the arrays that are held. These stay, and so do
+        // the tiles.
         ensures come { (f : List ℕ) → to_come self.new f ≡ unread self.old f query }
         ensures held { (f : List ℕ) (q : Query) → unread self.new f q ≡ unread self.old f q }
         ensures tiles { tiles_of self.new ≡ tiles_of self.old }
@@ -119,22 +123,22 @@ impl Reader {
         });
     }
 
-    /// The range that is wanted next, its first byte and its last one: at most 1,048,576 bytes that end in the file. There is
-    /// none where the query is answered, or none is asked. It goes on as far as what is held allows, and for that may need
-    /// memory: a refusal (`Memory`, the only error) leaves the reader as it was.
+    /// Goes on as far as what is held allows, and returns the byte range that is needed next. It has at most 1,048,576
+    /// bytes, which end in the file. Returns `None` where the query is answered, or none is asked. Fails with `Memory`
+    /// alone, and then leaves the reader as it was.
     pub fn need(&mut self) -> Result<Option<Span>, Memory>
         ensures wants { IfOk result (Wants self.new) }
         // It is the first of the ranges that are still to come.
         ensures first { IfOk result (λ o. IfSome o (λ span. (f : List ℕ) → ReaderAgrees self.new f
             → slice_get (to_come self.new f) 0 ≡ Some (extent_of_span span))) }
         ensures agrees { (f : List ℕ) → ReaderAgrees self.old f → ReaderAgrees self.new f }
-        // The same ranges are still to come, the wanted one first, or none where the query is answered.
+        // Unless the query is answered, the same ranges are still to come.
         ensures come { OnOk result ((f : List ℕ) → ReaderAgrees self.old f → outcome_of self.new ≡ None
             → to_come self.new f ≡ to_come self.old f) }
         // What is held of the file stays: no query needs more of it than before.
         ensures held { (f : List ℕ) (q : Query) → unread self.new f q ≡ unread self.old f q }
         ensures tiles { tiles_of self.new ≡ tiles_of self.old }
-        // Where nothing is asked, or an outcome stands, it isn't refused, and nothing changes.
+        // Where nothing is asked, or an outcome stands, it doesn't fail, and nothing changes.
         ensures idle { query_of self.old ≡ None ⊎ IsSome (outcome_of self.old) → IsOk result × (self.new ≡ self.old) }
         ensures steps { steps_of self.new ≤ steps_of self.old }
         ensures file_length { file_length_of self.new ≡ file_length_of self.old }
@@ -153,14 +157,14 @@ impl Reader {
         pending.need(&file, &mut self.tile_cache)
     }
 
-    /// The length of the file.
+    /// Returns the length of the file in bytes.
     pub fn file_length(&self) -> u64
         ensures { result ≡ file_length_of self.now }
     {
         self.file_length
     }
 
-    /// Returns what its query goes by.
+    /// Returns the view of the file that a query goes by.
     fn file(&self) -> FileView<'_>
         ensures length { result.file_length ≡ self.now.file_length }
         ensures walk { result.walk.now ≡ self.now.walk }
@@ -174,7 +178,8 @@ impl Reader {
         }
     }
 
-    /// The range that is wanted next, as far as it is known before `need` goes on, and ends in the file. It takes no memory.
+    /// Returns the byte range that is needed next, as far as it is known before `need` goes on. Returns `None` where it
+    /// isn't known, or ends after the file. It allocates nothing.
     pub fn wanted(&self) -> Option<Span>
         ensures known { IsNext self.now result }
         // It is the first of the ranges that are still to come.
@@ -185,8 +190,9 @@ impl Reader {
         pending.wanted(&self.file())
     }
 
-    /// The range that is wanted after the next one and `index` more, as far as it is known and ends in the file: the other array
-    /// of a level, a later group of a window, a later geo field. It takes no memory.
+    /// Returns the byte range that is needed after the next one and `index` more. It is the other array of a level, a
+    /// later group of a window, or a later geo field. Returns `None` where it isn't known, or ends after the file. It
+    /// allocates nothing.
     pub fn upcoming(&self, index: u32) -> Option<Span>
         ensures known { IsUpcoming self.now index result }
         // It stands at this place among the ranges that are still to come.
@@ -197,8 +203,8 @@ impl Reader {
         pending.upcoming(&self.file(), index)
     }
 
-    /// Takes all bytes of the range that is wanted. A refusal (`Memory`, the only error) leaves the reader as it was. Tiles are never
-    /// refused.
+    /// Takes all bytes of the range that is needed next. Fails with `Memory` alone, and then leaves the reader as it
+    /// was. It never fails where tiles are needed.
     pub fn give(&mut self, bytes: &[u8]) -> Result<(), Memory>
         requires { IsWanted self.old (length bytes.now) }
         ensures takes { OnOk result (Takes bytes.now self.old self.new) }
@@ -218,8 +224,8 @@ impl Reader {
         Ok(())
     }
 
-    /// How the tiles are stored that are wanted next: plain ones `paint` can take, and packed ones `unpack`. It is None where no tiles
-    /// are wanted. It takes no memory.
+    /// Returns how the tiles are stored that are needed next. `paint` can take plain ones, and `unpack` packed ones.
+    /// Returns `None` where no tiles are needed. It allocates nothing.
     pub fn tiles_wanted(&self) -> Option<Compression>
         ensures { result ≡ tiles_wanted self.now }
     {
@@ -227,8 +233,8 @@ impl Reader {
         pending.tiles_wanted(&self.kept)
     }
 
-    /// Takes the range that is wanted, of plain tiles: as `give` does, and copies no more of its bytes than the window has. It takes no
-    /// memory.
+    /// Takes the range that is needed next, of plain tiles, as `give` does. It copies no more of its bytes than the
+    /// window has. It allocates nothing.
     pub fn paint<B: Bytes>(&mut self, bytes: &B)
         requires plain { tiles_wanted self.old ≡ Some Plain }
         requires wanted { IsWanted self.old (length (B.bytes bytes.now)) }
@@ -241,9 +247,9 @@ impl Reader {
         pending.paint(&self.kept, bytes);
     }
 
-    /// Takes the range that is wanted, of packed tiles: as `give` does. Tiles that are kept unpacked are copied out of what is kept; the
-    /// bytes of another one are put in one piece, in `room` where they stand in several, which is as long as `Bytes` says. It is never
-    /// refused.
+    /// Takes the range that is needed next, of packed tiles, as `give` does. A tile that is kept is copied, and not
+    /// unpacked again. The bytes of another tile are put in one piece in `room`, where they stand in several. `room` is
+    /// at least as long as `Bytes` says. It never fails.
     pub fn unpack<B: Bytes>(&mut self, bytes: &B, room: &mut [u8])
         requires packed { IsSomeAnd (tiles_wanted self.old) (λ c. is_packed c ≡ true) }
         requires wanted { IsWanted self.old (length (B.bytes bytes.now)) }
@@ -256,7 +262,7 @@ impl Reader {
         pending.unpack(&self.kept, &mut self.tile_cache, bytes, room);
     }
 
-    /// What answers the query, where it is answered: a window, what Info says, or a fault.
+    /// Returns what answers the query: a window, what Info says, or a fault. Returns `None` where it isn't answered.
     pub fn outcome(&self) -> Option<&Outcome>
         ensures outcome { MatchOption result (outcome_of self.now ≡ None) (λ o. outcome_of self.now ≡ Some o.now) }
         ensures true_of { (f : List ℕ) → ReaderAgrees self.now f
@@ -273,7 +279,8 @@ impl Reader {
         }
     }
 
-    /// The levels of the file, the largest first, once its directories are read. It takes no memory.
+    /// Returns the levels of the file, the largest first. Returns `None` unless its directories are read. It allocates
+    /// nothing.
     pub fn levels(&self) -> Option<&[Level]>
         ensures known { MatchOption result (¬ AreDirectoriesRead self.now) (λ _. AreDirectoriesRead self.now) }
         ensures levels { (f : List ℕ) → ReaderAgrees self.now f → IfSome result (λ levels. AreLevels f levels.now) }
@@ -284,13 +291,13 @@ impl Reader {
         }
     }
 
-    /// What answers the query, by value, where it is answered: no query is asked then. Otherwise the reader stays as it is.
-    /// It takes no memory.
+    /// Moves the answer out of the reader, which has no query then. Returns `None` where the query isn't answered, and
+    /// then leaves the reader as it is. It allocates nothing.
     pub fn take_outcome(&mut self) -> Option<Outcome>
         ensures outcome { result ≡ outcome_of self.old }
         ensures true_of { (f : List ℕ) → ReaderAgrees self.old f
             → IfSome result (λ o. IsSomeAnd (query_of self.old) (λ q. IsTrueOf f q o)) }
-        // No outcome is left, and with it the query has gone.
+        // No outcome is left, and with it the query is dropped.
         ensures left { outcome_of self.new ≡ None }
         ensures query { IsSome result → query_of self.new ≡ None }
         // What is held of the file stays.

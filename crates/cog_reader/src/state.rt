@@ -1,5 +1,5 @@
-//! The states of a query, and what leads from one to the next: a step, which takes no byte of the file, and the bytes of the
-//! range that a state wants.
+//! The states of a query, and what leads from one to the next. This is a step, which takes no byte of the file, or the
+//! bytes of the range that a state needs.
 ghost use Rattle.std.specs.Prelude.{◌≡◌, ◌+◌, ◌<◌, ◌≤◌, ℕ, IfErr, IfOk, IsOk, IsSome, IsSomeAnd, MatchOption, Ok, OnErr, OnOk, length};
 ghost use Rattle.tiff_dir.specs.Needs.{extent_of_place};
 ghost use Rattle.extents.specs.Extent.{extent_of_span};
@@ -26,8 +26,8 @@ use std::mem;
 use tiff_dir::{Compression, FileFault, Place, Query, Walk};
 use tile_plan::{Bytes, Rectangle, TileCache, WindowBuilder};
 
-/// What a query goes by: the length of its file in bytes, the directories as far as they are read, and the tile arrays that are
-/// kept. `alloc` gives it memory.
+/// What a query goes by. This is the file's length in bytes, its directories as far as they are read, and the tile
+/// arrays that are kept. `alloc` gives memory.
 #[derive(Clone, Copy)]
 pub struct FileView<'a> {
     pub alloc: Global,
@@ -36,7 +36,8 @@ pub struct FileView<'a> {
     pub kept: &'a KeptArrays,
 }
 
-/// How far a query has come. The directories come first, then for a window the arrays and the tiles, for Info the fields.
+/// How far a query has come. The directories come first. For a window the arrays and the tiles follow, for Info the geo
+/// fields.
 #[derive(Drop)]
 pub enum State {
     /// The directories are read, as far as they weren't for an earlier query.
@@ -53,14 +54,14 @@ pub enum State {
 
 /// What comes next for a query.
 pub enum ReaderStep {
-    /// In this state it wants a range of the file.
+    /// In this state it needs a range of the file.
     Read(State, Span),
     /// It is answered.
     Answer(Outcome),
 }
 
-/// Goes on from a state as far as what is held allows: to a range that is wanted, or to the answer. A refusal of memory
-/// gives the state back.
+/// Goes on from `state` as far as what is held allows, to a range that is needed, or to the answer. Fails where an
+/// allocation fails, and returns the state then.
 fn advance(
     file: &FileView<'_>,
     tile_cache: &mut TileCache,
@@ -92,7 +93,8 @@ fn advance(
     }
 }
 
-/// Gives a state the bytes that it wants, or tells the fault that they have.
+/// Gives `state` the bytes that it needs, and returns the fault that they have, if any. Fails with `Memory` alone, and
+/// then changes nothing.
 fn accept(
     alloc: Global,
     walk: &mut Walk,
@@ -135,8 +137,8 @@ pub struct PendingQuery {
 }
 
 impl PendingQuery {
-    /// The range that is wanted next, none where the query is answered. It goes on as far as what is held allows. A refusal
-    /// leaves the state as it was.
+    /// Goes on as far as what is held allows, and returns the byte range that is needed next. Returns `None` where the
+    /// query is answered. Fails with `Memory` alone, and then leaves the state as it was.
     pub fn need(
         &mut self,
         file: &FileView<'_>,
@@ -170,7 +172,7 @@ impl PendingQuery {
         }
     }
 
-    /// The range that is wanted next, as far as it is known and ends in the file.
+    /// Returns the byte range that is needed next. Returns `None` where it isn't known, or ends after the file.
     pub fn wanted(&self, file: &FileView<'_>) -> Option<Span>
         requires { IsState file.now.file_length file.now.walk.now file.now.kept.now self.now.state }
         ensures { ComesNext file.now.file_length file.now.walk.now file.now.kept.now self.now.state result }
@@ -184,7 +186,8 @@ impl PendingQuery {
         }
     }
 
-    /// The range that is wanted after the next one and `index` more, as far as it is known and ends in the file.
+    /// Returns the byte range that is needed after the next one and `index` more. Returns `None` where it isn't known,
+    /// or ends after the file.
     pub fn upcoming(&self, file: &FileView<'_>, index: u32) -> Option<Span>
         requires { IsState file.now.file_length file.now.walk.now file.now.kept.now self.now.state }
         ensures { ComesLater file.now.file_length file.now.walk.now file.now.kept.now self.now.state index result }
@@ -197,7 +200,8 @@ impl PendingQuery {
         }
     }
 
-    /// Takes the bytes that are wanted. Where they tell a fault, it answers the query. A refusal leaves all as it was.
+    /// Takes the bytes that are needed. Where they have a fault, this answers the query. Fails with `Memory` alone, and
+    /// then changes nothing.
     pub fn give(
         &mut self,
         alloc: Global,
@@ -233,7 +237,7 @@ impl PendingQuery {
     ghost use Rattle.tiff_dir.specs.Window.{is_packed};
     ghost use Rattle.tile_plan.specs.TileCache.{KeptTiles};
 
-    /// How the tiles are stored that are wanted, none where no tiles are.
+    /// Returns how the tiles are stored that are needed next, or `None` where no tiles are.
     pub fn tiles_wanted(&self, kept: &KeptArrays) -> Option<Compression>
         ensures { result ≡ tiles_wanted_by kept.now self.now.state }
     {
@@ -246,7 +250,7 @@ impl PendingQuery {
         }
     }
 
-    /// Takes the bytes of plain tiles that are wanted.
+    /// Takes the bytes of plain tiles.
     pub fn paint<B: Bytes>(&mut self, kept: &KeptArrays, bytes: &B)
         requires { AreTiles (λ c. c ≡ Plain) kept.now self.old.state (length (B.bytes bytes.now)) }
         ensures query { self.new.query ≡ self.old.query }
@@ -261,7 +265,7 @@ impl PendingQuery {
         tiles::paint(kept, builder, bytes);
     }
 
-    /// Takes the bytes of packed tiles that are wanted. Where they tell a fault, it answers the query.
+    /// Takes the bytes of packed tiles. Where they have a fault, this answers the query.
     pub fn unpack<B: Bytes>(
         &mut self,
         kept: &KeptArrays,
@@ -287,7 +291,7 @@ impl PendingQuery {
     }
 }
 
-/// The bytes of a field's values, none if they end after a file of `file_length` bytes.
+/// Returns the bytes of a field's values, or `None` if they end after a file of `file_length` bytes.
 fn span_of(place: Place, file_length: u64) -> Option<Span>
     requires { 0 < place.len }
     ensures { MatchOption result (file_length < place.first + place.len)

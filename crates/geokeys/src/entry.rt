@@ -1,4 +1,4 @@
-//! The numbers of the directory: its head, and four for each key.
+//! The numbers of the key directory: its header, and four for each key.
 ghost use Rattle.std.specs.Prelude.{◌≡◌, ◌+◌, ◌*◌, ◌%◌, ◌<◌, ◌≤◌, [], MatchResult, length};
 ghost use Rattle.tiff_dir.specs.Number.{number_in};
 ghost use Rattle.tiff_dir.specs.Keys.{IsBadKeyHead};
@@ -8,24 +8,29 @@ ghost use Rattle.geokeys.specs.KeyEntry.{IsHead, entry_at};
 use byteorder::{BigEndian, ByteOrder, LittleEndian};
 use tiff_dir::{FileFault, Order};
 
-/// What the head of a directory says.
+/// What the header of a key directory says.
 #[derive(Clone, Copy)]
 pub struct KeyDirectoryHeader {
+    /// The minor revision.
     pub minor: u16,
-    /// How many keys there are.
+    /// The number of keys.
     pub keys: u16,
 }
 
-/// What the directory says of a key.
+/// The entry of a key in the key directory.
 #[derive(Clone, Copy)]
 pub struct KeyEntry {
+    /// The number of the key.
     pub id: u16,
+    /// Where the value stands: 0 for the entry itself, else the tag of a field.
     pub location: u16,
+    /// The Count: the number of values.
     pub count: u16,
+    /// The value itself, or the index of the first value in the field.
     pub first: u16,
 }
 
-/// The number of the two bytes from `at`.
+/// Returns the number in the two bytes from `at` on.
 fn short_at(order: Order, bytes: &[u8], at: usize) -> u16
     requires { at + 2 ≤ length bytes.now }
     ensures { result ≡ number_in order at 2 bytes.now }
@@ -36,7 +41,8 @@ fn short_at(order: Order, bytes: &[u8], at: usize) -> u16
     }
 }
 
-/// The head of a directory that isn't empty.
+/// Returns the header of a directory that isn't empty. Fails with `KeyHead` where the version, the revision or the
+/// length is wrong.
 pub fn head_of(order: Order, directory: &[u8]) -> Result<KeyDirectoryHeader, FileFault>
     requires some { 0 < length directory.now }
     requires even { length directory.now % 2 ≡ 0 }
@@ -57,7 +63,7 @@ pub fn head_of(order: Order, directory: &[u8]) -> Result<KeyDirectoryHeader, Fil
     Ok(KeyDirectoryHeader { minor, keys })
 }
 
-/// What the directory says of key `i`.
+/// Returns the entry of key `i`, counted from 0.
 pub fn entry_at(order: Order, directory: &[u8], i: usize) -> KeyEntry
     requires { 8 * i + 16 ≤ length directory.now }
     ensures { result ≡ entry_at order directory.now i }

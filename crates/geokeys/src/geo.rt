@@ -11,13 +11,16 @@ use tiff_dir::{FileFault, Order, WalkError as GeoError};
 pub struct Geo {
     /// The minor revision of the keys' meaning.
     pub minor: u16,
+    /// The keys.
     pub keys: Vec<Key>,
 }
 
 /// A key and its value.
 #[derive(Debug, Drop, PartialEq, Eq)]
 pub struct Key {
+    /// The number of the key.
     pub id: u16,
+    /// The value.
     pub value: KeyValue,
 }
 
@@ -38,13 +41,16 @@ impl Geo {
     ghost use Rattle.tiff_dir.specs.declared.fault.FileFault.{FileFault as Fault};
     ghost use Rattle.geokeys.specs.Keys.{key_source, AreKeys, IsKeyError};
 
-    /// The keys in the bytes of the key directory (GeoKeyDirectory) and of the two fields that it points into (GeoDoubleParams and
-    /// GeoAsciiParams): shorts, items of eight bytes, and bytes, in the file's order (OGC 19-008, section 7.1.1). A field that a
-    /// file hasn't is empty, and without a directory there are no keys.
+    /// Reads the keys from the bytes of three fields (OGC 19-008, section 7.1.1). `directory` is GeoKeyDirectory, of
+    /// SHORTs. It points into `doubles`, which is GeoDoubleParams, of items of eight bytes, and into `ascii`, which is
+    /// GeoAsciiParams. Numbers are in byte order `order`. A field that the file hasn't is empty. Without a directory
+    /// there are no keys.
     ///
-    /// The fault is KeyHead where the version or the revision isn't 1 or the directory hasn't four numbers and four for each key;
-    /// then, key by key, KeyOrder where a key isn't greater than the one before, and KeyPlace where its value is at another
-    /// location, or past the end of its field, or no single value at location 0. Memory comes where none was left.
+    /// Fails with `Memory`, or with the first of these faults. Those of keys are looked for key by key:
+    /// - `KeyHead`: the version or the revision isn't 1, or the directory hasn't four numbers, and four for each key.
+    /// - `KeyOrder`: the key isn't greater than the one before.
+    /// - `KeyPlace`: the location is neither the entry nor one of the two other fields, or the value ends after its
+    /// field. Or the value stands in the entry, and its Count isn't 1.
     ///
     /// ```
     /// let directory = [1, 0, 1, 0, 0, 0, 1, 0, 0x00, 0x04, 0, 0, 1, 0, 2, 0];
@@ -64,7 +70,7 @@ impl Geo {
         ensures sound { IfOk result (λ _. (fault : Fault)
             → IsFaultOfKeys (key_source order directory.now doubles.now ascii.now) fault → ⊥) }
         ensures refused { IfErr result (IsKeyError (key_source order directory.now doubles.now ascii.now)) }
-        // Where there are no keys no memory is wanted.
+        // Where there is no directory, it doesn't fail.
         ensures sure { length directory.now ≡ 0 → IsOk result }
     {
         if directory.is_empty() {

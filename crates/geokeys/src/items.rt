@@ -15,7 +15,7 @@ use tiff_dir::{FileFault, Order};
 /// The location of a value that stands in the directory itself.
 const DIRECTORY: u16 = 0;
 
-/// An item of eight bytes, its most significant byte first.
+/// Returns an item of eight bytes with its most significant byte first.
 fn big_first(order: Order, bytes: &[u8]) -> [u8; 8]
     requires { length bytes.now ≡ 8 }
     ensures { result ≡ big_first order bytes.now }
@@ -29,8 +29,8 @@ fn big_first(order: Order, bytes: &[u8]) -> [u8; 8]
     item
 }
 
-/// The items of eight bytes (DOUBLE), which are in the file's order, each with its most significant byte first. An `Err` comes
-/// where no memory was left.
+/// Returns the items of eight bytes (DOUBLE), each with its most significant byte first. `bytes` has them in byte order
+/// `order`. Fails with `Memory` alone.
 pub fn doubles(alloc: Global, order: Order, bytes: &[u8]) -> Result<Vec<[u8; 8]>, Memory>
     requires { length bytes.now % 8 ≡ 0 }
     ensures { IfOk result (λ items. items.items ≡ doubles_in order bytes.now) }
@@ -42,7 +42,8 @@ pub fn doubles(alloc: Global, order: Order, bytes: &[u8]) -> Result<Vec<[u8; 8]>
     Ok(items)
 }
 
-/// The bytes from one place up to another, where they are there. Of none it doesn't matter where they are.
+/// Returns the bytes from place `from` on and before `to`, or `None` where they aren't all there. Where there are none
+/// between, it returns none, whatever the places are.
 fn part(bytes: &[u8], from: usize, to: usize) -> Option<&[u8]>
     requires { from ≤ to }
     ensures { MatchOption result
@@ -56,7 +57,7 @@ fn part(bytes: &[u8], from: usize, to: usize) -> Option<&[u8]>
     }
 }
 
-/// The value of a key.
+/// Returns the value of a key. Fails with `KeyPlace`, as `Geo::read` does, or with `Memory`.
 pub fn value_of(
     alloc: Global,
     order: Order,

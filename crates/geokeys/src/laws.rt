@@ -1,7 +1,7 @@
-//! A law of the definitions, which upper crates rest on. The function does nothing: its contract is the law.
+//! A law of the definitions, for the crates above. The function does nothing: its contract is the law.
 ghost use Rattle.geokeys.specs.Same.{KeysAreUnique};
 
-/// What keys are read from has one minor revision and one list of keys.
+/// States that what keys are read from has one minor revision and one list of keys.
 pub fn law_one_geo()
     ensures keys { KeysAreUnique }
 {}

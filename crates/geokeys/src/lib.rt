@@ -1,4 +1,4 @@
-//! The key directory of a GeoTIFF file (OGC 19-008, section 7.1.1).
+//! Reads the keys of a GeoTIFF file from its key directory (OGC 19-008, section 7.1.1).
 #![tactic(auto)]
 
 mod entry;
@@ -9,5 +9,5 @@ mod laws;
 pub use geo::{Geo, Key, KeyValue};
 pub use items::doubles;
 pub use laws::law_one_geo;
-/// Why there are no keys: the directory has the fault, or no memory was left.
+/// Why there are no keys: the directory has a fault, or an allocation failed.
 pub use tiff_dir::WalkError as GeoError;

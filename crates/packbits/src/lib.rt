@@ -1,4 +1,4 @@
-//! PackBits (TIFF 6.0, section 9): the bytes of a packed tile.
+//! Packs and unpacks the bytes of tiles by PackBits (TIFF 6.0, section 9).
 #![tactic(auto)]
 
 mod packing;

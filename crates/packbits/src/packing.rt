@@ -1,4 +1,4 @@
-//! Packets of a row.
+//! How a row is packed.
 ghost use Rattle.std.specs.Prelude.{◌≡◌, ◌<◌, ◌≤◌, IfOk, length, take, replicate, slice_index};
 ghost use Rattle.tiff_dir.specs.declared.limits.TheConstants.{MAX_PACKET_BYTES};
 ghost use Rattle.tiff_dir.specs.Packets.{Packs};
@@ -8,7 +8,7 @@ use extents::Memory;
 use std::alloc::Global;
 use tiff_dir::limits::MAX_PACKET_BYTES;
 
-/// How many equal bytes the row begins with, up to 128.
+/// Returns how many equal bytes come first, at most 128.
 fn run_len(bytes: &[u8]) -> usize
     requires { 0 < length bytes.now }
     ensures some { 1 ≤ result }
@@ -26,7 +26,7 @@ fn run_len(bytes: &[u8]) -> usize
     most
 }
 
-/// How many bytes come before a run, up to 128, and one at least.
+/// Returns how many bytes come before a run of equal bytes: at least 1, and at most 128.
 fn copy_len(bytes: &[u8]) -> usize
     requires { 0 < length bytes.now }
     ensures some { 1 ≤ result }
@@ -42,7 +42,7 @@ fn copy_len(bytes: &[u8]) -> usize
     most
 }
 
-/// Appends the first packet of the bytes, and says how many it stands for.
+/// Appends the first packet of `bytes`, and returns how many bytes it stands for. Fails with `Memory` alone.
 fn push_packet(packed: &mut Vec<u8>, bytes: &[u8]) -> Result<usize, Memory>
     requires { 0 < length bytes.now }
     ensures { IfOk result (λ len. Adds packed.old.items packed.new.items bytes.now len) }
@@ -59,7 +59,8 @@ fn push_packet(packed: &mut Vec<u8>, bytes: &[u8]) -> Result<usize, Memory>
     Ok(len)
 }
 
-/// Returns packets that stand for a row, which isn't empty. Which packets they are is left open. Fails where no memory was left.
+/// Returns packets that stand for `row`, which isn't empty. It isn't said which packets these are. Fails with `Memory`
+/// alone.
 ///
 /// ```
 /// assert_eq!(pack_row(alloc, &[7, 7, 7, 1, 2])?.as_slice(), [0xfe, 7, 0x01, 1, 2]);

@@ -1,4 +1,4 @@
-//! What packets stand for.
+//! How packed bytes are unpacked.
 ghost use Rattle.std.specs.Prelude.{◌≡◌, ◌<◌, ◌≤◌, IfSome, IfNone, OnOk, IfErr, length, take, min, replicate};
 ghost use Rattle.tiff_dir.specs.Packets.{Packs};
 ghost use Rattle.tiff_dir.specs.declared.limits.TheConstants.{MAX_PACKET_BYTES};
@@ -7,13 +7,14 @@ ghost use Rattle.packbits.specs.Unpacking.{IsFirst, HasNoFirst, IsNotPacked};
 use tiff_dir::limits::MAX_PACKET_BYTES;
 use tiff_dir::{FileFault, law_one_text};
 
-/// The head of a packet that stands for nothing; below it a packet copies, above it one repeats.
+/// The first byte of a packet that stands for nothing. Below it a packet copies bytes, above it a packet repeats one.
 const NO_OP: usize = 128;
 
-/// So many bytes are written at once for a packet of at most as many, and `MAX_PACKET_BYTES` for one of more: neither costs a call.
+/// The number of bytes that are written at once for a packet of at most as many. For a longer packet it is
+/// `MAX_PACKET_BYTES`. Neither costs a call.
 const AT_ONCE: usize = 16;
 
-/// Writes a byte so many times. What follows in `out` may be overwritten.
+/// Writes `byte` to the front of `out`, `times` times. What follows in `out` may be overwritten.
 #[inline(always)]
 fn repeat(byte: u8, times: usize, out: &mut [u8])
     requires few { times ≤ MAX_PACKET_BYTES }
@@ -27,7 +28,7 @@ fn repeat(byte: u8, times: usize, out: &mut [u8])
     }
 }
 
-/// Copies the first `len` bytes. What follows in `out` may be overwritten.
+/// Copies the first `len` bytes to the front of `out`. What follows in `out` may be overwritten.
 #[inline(always)]
 fn copy(bytes: &[u8], len: usize, out: &mut [u8])
     requires few { len ≤ MAX_PACKET_BYTES }
@@ -42,7 +43,7 @@ fn copy(bytes: &[u8], len: usize, out: &mut [u8])
     }
 }
 
-/// Writes a byte so many times, and nothing behind.
+/// Writes `byte` to the front of `out`, `times` times, and nothing after that.
 #[inline(always)]
 fn repeat_last(byte: u8, times: usize, out: &mut [u8])
     requires { times ≤ length out.old }
@@ -51,7 +52,7 @@ fn repeat_last(byte: u8, times: usize, out: &mut [u8])
     out[..times].fill(byte);
 }
 
-/// Copies the first `len` bytes, and nothing behind.
+/// Copies the first `len` bytes to the front of `out`, and none after them.
 #[inline(always)]
 fn copy_last(bytes: &[u8], len: usize, out: &mut [u8])
     requires there { len ≤ length bytes.now }
@@ -61,8 +62,8 @@ fn copy_last(bytes: &[u8], len: usize, out: &mut [u8])
     out[..len].copy_from_slice(&bytes[..len]);
 }
 
-/// Writes what the first packet stands for, where it has room in its row: how many bytes the packet has, and how many it stands
-/// for. There are bytes for any packet, and `out` has room for what any stands for.
+/// Writes what the first packet stands for, if its row has room for it. Returns how many bytes the packet has, and how
+/// many it stands for. `bytes` is long enough for any packet, and `out` for what any packet stands for.
 #[inline(always)]
 fn unpack_next(bytes: &[u8], room: usize, out: &mut [u8]) -> Option<(usize, usize)>
     requires there { MAX_PACKET_BYTES < length bytes.now }
@@ -91,7 +92,8 @@ fn unpack_next(bytes: &[u8], room: usize, out: &mut [u8]) -> Option<(usize, usiz
     }
 }
 
-/// The same of the last bytes, where it has room in `out`, too.
+/// Does the same as `unpack_next` near the end, where `bytes` or `out` may be shorter. The packet also needs room in
+/// `out`.
 #[inline(always)]
 fn unpack_last(bytes: &[u8], room: usize, out: &mut [u8]) -> Option<(usize, usize)>
     requires { 0 < length bytes.now }
@@ -120,8 +122,8 @@ fn unpack_last(bytes: &[u8], room: usize, out: &mut [u8]) -> Option<(usize, usiz
     }
 }
 
-/// Writes what the first packet stands for, where it has room in its row and in `out`: how many bytes the packet has, and how
-/// many it stands for.
+/// Writes what the first packet stands for, if its row and `out` have room for it. Returns how many bytes the packet
+/// has, and how many it stands for.
 #[inline(always)]
 fn unpack_first(bytes: &[u8], room: usize, out: &mut [u8]) -> Option<(usize, usize)>
     requires { 0 < length bytes.now }
@@ -136,9 +138,9 @@ fn unpack_first(bytes: &[u8], room: usize, out: &mut [u8]) -> Option<(usize, usi
     }
 }
 
-/// Unpacks the packed bytes of whole rows of `row` bytes each into `out`, packet by packet (TIFF 6.0, section 9). A packet that
-/// crosses the end of its row is refused by Packet, and so are bytes that fill less or more than `out`, or that end within a
-/// packet. After a refusal `out` may hold anything.
+/// Unpacks `seg`, the packed bytes of whole rows of `row` bytes each, into `out` (TIFF 6.0, section 9). Fails with
+/// `Packet` where a packet crosses the end of its row. So it does where the packets stand for fewer or more bytes than
+/// `out` has, or where `seg` ends within a packet. Then `out` may hold anything.
 ///
 /// ```
 /// let mut out = [0; 5];

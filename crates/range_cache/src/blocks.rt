@@ -10,7 +10,7 @@ ghost use Rattle.range_cache.specs.Piece.{block_in, is_brought};
 use extents::{BLOCK_SIZE, Memory, Span};
 use lru::LruCache;
 
-/// The last place of a block of a file of this length.
+/// Returns the last position of block `number` in a file of `file_length` bytes.
 pub fn last_of(number: u64, file_length: u64) -> u64
     requires { number * BLOCK_SIZE < file_length }
     ensures { result + 1 ≡ end_of file_length number }
@@ -18,7 +18,7 @@ pub fn last_of(number: u64, file_length: u64) -> u64
     (number * BLOCK_SIZE + (BLOCK_SIZE - 1)).min(file_length - 1)
 }
 
-/// Where the run of missing blocks ends that goes on here.
+/// Returns the first block from `from` on and before `to` that is there, or `to` where none is.
 pub fn end_of_run(blocks: &LruCache<u64, Vec<u8>>, from: u64, to: u64) -> u64
     requires { from ≤ to }
     ensures { IsRunEnd (numbers (blocks_in blocks.now.entries)) from to result }
@@ -31,7 +31,7 @@ pub fn end_of_run(blocks: &LruCache<u64, Vec<u8>>, from: u64, to: u64) -> u64
     to
 }
 
-/// How many of the blocks from one number up to another are there.
+/// Returns how many of the blocks from `from` on and before `to` are there.
 pub fn count_present(blocks: &LruCache<u64, Vec<u8>>, from: u64, to: u64) -> u64
     requires { from ≤ to }
     ensures { result + missing (numbers (blocks_in blocks.now.entries)) from (to - from) ≡ to - from }
@@ -45,8 +45,8 @@ pub fn count_present(blocks: &LruCache<u64, Vec<u8>>, from: u64, to: u64) -> u64
     count
 }
 
-/// Brings the blocks from one number up to another that are there to the front, in ascending order. The first one that
-/// isn't there.
+/// Brings those of the blocks from `from` on and before `to` that are there to the front, in ascending order. Returns
+/// the first of them that isn't there, or `None`.
 pub fn bring(blocks: &mut LruCache<u64, Vec<u8>>, from: u64, to: u64) -> Option<u64>
     requires ascending { from ≤ to }
     requires distinct { IsDistinct ◌==◌ (numbers (blocks_in blocks.old.entries)) }
@@ -68,7 +68,7 @@ pub fn bring(blocks: &mut LruCache<u64, Vec<u8>>, from: u64, to: u64) -> Option<
     missing
 }
 
-/// Copies the bytes of a block from a place in it on, and zeros past its end.
+/// Copies the bytes of a block from place `skip` on, and zeros past its end.
 fn copy_part(block: &[u8], skip: usize, out: &mut [u8])
     requires { skip + length out.old < 2 ^ 64 }
     ensures { EachIndex out.new (λ k. slice_index out.new k ≡ slice_index block.now (skip + k)) }
@@ -82,7 +82,7 @@ fn copy_part(block: &[u8], skip: usize, out: &mut [u8])
     }
 }
 
-/// Copies the bytes from a place in a block on, as the blocks have them.
+/// Copies the bytes of block `number` from place `skip` in it on, and zeros where it isn't there.
 fn copy_block(blocks: &LruCache<u64, Vec<u8>>, number: u64, skip: usize, out: &mut [u8])
     requires { skip + length out.old ≤ BLOCK_SIZE }
     ensures { out.new
@@ -94,7 +94,7 @@ fn copy_block(blocks: &LruCache<u64, Vec<u8>>, number: u64, skip: usize, out: &m
     }
 }
 
-/// Copies the bytes from a place in the file on, as the blocks have them.
+/// Copies the bytes of the file from position `first` on, as the blocks have them.
 pub fn copy(blocks: &LruCache<u64, Vec<u8>>, first: u64, out: &mut [u8])
     requires { first + length out.old < 2 ^ 64 }
     ensures { out.new ≡ map (byte_at (blocks_in blocks.now.entries)) (range_with_len first (length out.old)) }
@@ -112,7 +112,7 @@ pub fn copy(blocks: &LruCache<u64, Vec<u8>>, first: u64, out: &mut [u8])
     }
 }
 
-/// The bytes from a place in the file on that stand in one block, at most `len`.
+/// Returns the bytes of the file from position `first` on that stand in one block, at most `len`.
 pub fn piece(blocks: &LruCache<u64, Vec<u8>>, first: u64, len: usize) -> &[u8]
     requires { first + len < 2 ^ 64 }
     ensures few { length result.now ≤ len }
@@ -129,14 +129,14 @@ pub fn piece(blocks: &LruCache<u64, Vec<u8>>, first: u64, len: usize) -> &[u8]
     block.get(skip..end).unwrap_or(&[])
 }
 
-/// Stores a block where it isn't there, and says how many were stored.
+/// Stores a block unless it is there, and returns how many were stored, 0 or 1. Fails with `Memory` alone.
 fn store_one(blocks: &mut LruCache<u64, Vec<u8>>, number: u64, bytes: &[u8]) -> Result<u32, Memory>
     ensures capacity { blocks.new.cap ≡ blocks.old.cap }
     ensures ok { IfOk result (λ count.
         (blocks_in blocks.new.entries ≡ put_one blocks.old.cap (blocks_in blocks.old.entries) (number, bytes.now))
         × (count ≡ (if has number (numbers (blocks_in blocks.old.entries)) then 0 else 1))) }
     ensures err { OnErr result (blocks_in blocks.new.entries ≡ blocks_in blocks.old.entries) }
-    // Where it is there no memory is wanted.
+    // Where it is there, it doesn't fail.
     ensures sure { has number (numbers (blocks_in blocks.old.entries)) ≡ true → IsOk result }
 {
     if blocks.contains(&number) {
@@ -147,7 +147,7 @@ fn store_one(blocks: &mut LruCache<u64, Vec<u8>>, number: u64, bytes: &[u8]) -> 
     Ok(1)
 }
 
-/// Which blocks a piece of so many bytes brings: those from the first number up to the second.
+/// Returns which blocks a piece of `len` bytes brings: those from the first number on and before the second.
 pub fn whole_run(file_length: u64, first: u64, len: u64, wanted: Span) -> (u64, u64)
     requires { first + len ≤ file_length }
     ensures run { filter (is_brought file_length first len wanted) (range_with_len 0 (block_count file_length))
@@ -166,7 +166,8 @@ pub fn whole_run(file_length: u64, first: u64, len: u64, wanted: Span) -> (u64, 
     (from, to)
 }
 
-/// Stores those of the blocks that aren't there, from the bytes of a piece, and says how many.
+/// Stores those of the blocks from `from` on and before `to` that aren't there, from the bytes of a piece. Returns how
+/// many it stored. Fails with `Memory` alone.
 pub fn store(
     blocks: &mut LruCache<u64, Vec<u8>>,
     file_length: u64,

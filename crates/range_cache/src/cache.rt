@@ -17,22 +17,22 @@ use std::alloc::Global;
 use std::marker::Model;
 use std::num::NonZeroUsize;
 
-/// The fewest blocks of a cache: those of a range of 1,048,576 bytes, wherever it begins, and one more.
+/// The fewest blocks of a cache. A range of 1,048,576 bytes touches at most one less, wherever it begins.
 pub const MIN_CAPACITY: u32 = 66;
 
 /// The most blocks of a cache.
 pub const MAX_CAPACITY: u32 = 4096;
 
-/// Why there is no cache.
+/// Why a cache isn't made.
 #[derive(Clone, Copy, Debug, PartialEq, Eq)]
 pub enum CacheError {
-    /// There are not 66 to 4,096 blocks.
+    /// The number of blocks isn't between 66 and 4,096.
     Blocks = 1,
-    /// No memory was left.
+    /// An allocation failed.
     Memory = 2,
 }
 
-/// Blocks of one file by their numbers. Where it is full, the least recently used one leaves for a new one.
+/// Blocks of one file, by their numbers. Where the cache is full, a new block replaces the least recently used one.
 #[derive(Drop)]
 pub struct Cache {
     blocks: LruCache<u64, Vec<u8>>,
@@ -51,8 +51,8 @@ impl Model for Cache {
 }
 
 impl Cache {
-    /// An empty cache of at most so many blocks of 16,384 bytes, 66 to 4,096. The error is Blocks for another number, and Memory
-    /// where none was left for the table.
+    /// Makes an empty cache for at most `blocks` blocks of 16,384 bytes. Fails with `Blocks` where `blocks` isn't
+    /// between 66 and 4,096, and else only with `Memory`.
     ///
     /// ```
     /// let mut cache = Cache::new(alloc, 66)?;
@@ -80,10 +80,10 @@ impl Cache {
         }
     }
 
-    /// Says whether all the blocks of a range of so many bytes from `first` on are there, and else the first unbroken run of those that
-    /// are missing. In both cases those that are there come to the front, in ascending order.
+    /// Checks whether all blocks are there that the `len` bytes from `first` on touch. Fails with the first run of
+    /// missing ones otherwise. In both cases those that are there come to the front, in ascending order.
     ///
-    /// `file_length` is the length of the file, and the range lies in it.
+    /// `file_length` is the length of the file in bytes, and the range lies in it.
     pub fn touch(&mut self, file_length: u64, first: u64, len: usize) -> Result<(), Missing>
         requires some { 0 < len }
         requires within { first + len ≤ file_length }
@@ -97,8 +97,8 @@ impl Cache {
         ensures bytes { OnOk result ((f : List ℕ) → first + len ≤ length f → Holds f self.old →
             bytes_at self.new first len ≡ slice_range f first (first + len)) }
 
-        // What follows of the entries: only their order changes, so the same blocks are there, each still the file's, and
-        // those of the range lead.
+        // These follow from the entries. Only their order changes, so the same blocks are there, and each is still the
+        // file's. Those of the range lead.
         ensures kept { (k : ℕ) → block_at k self.new.entries ≡ block_at k self.old.entries }
         ensures same { (k : ℕ) → has k (numbers self.new.entries) ≡ has k (numbers self.old.entries) }
         ensures holds { (f : List ℕ) → Holds f self.old → Holds f self.new }
@@ -118,8 +118,8 @@ impl Cache {
         }
     }
 
-    /// Copies the bytes from `first` on, as the blocks have them: zeros where a block isn't there. The order of the blocks
-    /// stays.
+    /// Copies the bytes from `first` on, as the blocks have them, and zeros where a block isn't there. The order of the
+    /// blocks stays.
     #[tactic(auto, unfolding(crate::specs::Cache::bytes_at))]
     pub fn copy_at(&self, first: u64, out: &mut [u8])
         requires { first + length out.old < 2 ^ 64 }
@@ -128,9 +128,9 @@ impl Cache {
         copy(&self.blocks, first, out);
     }
 
-    /// Reads the bytes from `first` on into `out`, where all blocks that they touch are there. Fails with the first unbroken run
-    /// of missing blocks otherwise, and then leaves `out` as it was. In both cases the blocks that are there come to the front,
-    /// in ascending order.
+    /// Reads the bytes from `first` on into `out`, where all blocks that they touch are there. Fails with the first run
+    /// of missing blocks otherwise, and then leaves `out` as it was. In both cases the blocks that are there come to
+    /// the front, in ascending order.
     ///
     /// `file_length` is the length of the file in bytes, and the range lies in it.
     ///
@@ -156,7 +156,7 @@ impl Cache {
             out.new ≡ slice_range f first (first + length out.old)) }
         ensures missed { OnErr result (out.new ≡ out.old) }
 
-        // What follows of the entries, as for `touch`.
+        // These follow from the entries, as for `touch`.
         ensures kept { (k : ℕ) → block_at k self.new.entries ≡ block_at k self.old.entries }
         ensures same { (k : ℕ) → has k (numbers self.new.entries) ≡ has k (numbers self.old.entries) }
         ensures holds { (f : List ℕ) → Holds f self.old → Holds f self.new }
@@ -167,7 +167,8 @@ impl Cache {
         Ok(())
     }
 
-    /// The bytes from `first` on that stand in one block, at most `len`: none where that block isn't there.
+    /// Returns the bytes from `first` on that stand in one block, at most `len`. Returns none where that block isn't
+    /// there.
     #[tactic(auto, unfolding(crate::specs::Cache::bytes_at))]
     pub fn piece_at(&self, first: u64, len: usize) -> &[u8]
         requires { first + len < 2 ^ 64 }
@@ -178,11 +179,13 @@ impl Cache {
         piece(&self.blocks, first, len)
     }
 
-    /// Stores the blocks that lie wholly in a piece of the file and wholly in what is wanted and that aren't there, in
-    /// ascending order, and says how many; where the cache is full the least recently used one leaves for each. After a refusal
-    /// (Memory) a beginning of them is stored. A piece that brings no block that isn't there is never refused.
+    /// Stores the missing blocks that lie wholly in a piece of the file and wholly in `wanted`, in ascending order.
+    /// Returns how many it stored. Where the cache is full, each replaces the least recently used block. Fails with
+    /// `Memory` alone. Then only the first of these blocks are stored, or none. It never fails where the piece brings
+    /// no missing block.
     ///
-    /// `file_length` is the length of the file, and the piece, which begins at `first`, lies in it and may be empty.
+    /// `file_length` is the length of the file in bytes. The piece begins at `first`, lies in the file, and may be
+    /// empty.
     pub fn put(
         &mut self,
         file_length: u64,
@@ -203,8 +206,9 @@ impl Cache {
             × (self.new ≡ record self.old { entries = stored self.old.capacity (take k new) self.old.entries })) }
         ensures sure { stores self.old.capacity (whole_blocks file_length first bytes.now wanted) self.old.entries ≡ 0 → IsOk result }
 
-        // What follows of the entries: each is still the file's; and where none of the blocks is there, and they have room
-        // beside those of a range that are there and lead, no block of the range leaves, and they are there.
+        // These follow from the entries. Each block is still the file's. The last clause is about new blocks, none of
+        // which is there, and a range whose blocks lead. Where the new ones have room beside the range's blocks that
+        // are there, no block of the range leaves. Unless the call fails, the new ones are there then.
         ensures holds { (f : List ℕ) → file_length ≡ length f → IsPieceOf f first bytes.now → Holds f self.old → Holds f self.new }
         ensures stays { let new = whole_blocks file_length first bytes.now wanted in let there = numbers self.old.entries in
             (n count : ℕ) → AreGone there (numbers new) → count - missing there n count + length new ≤ self.old.capacity →
@@ -217,7 +221,7 @@ impl Cache {
         store(&mut self.blocks, file_length, first, bytes, from, to)
     }
 
-    // It does nothing: its contract is a law of the blocks that are kept.
+    // Does nothing: its contract is a law of the blocks that are kept.
     fn law(&self)
         ensures { IsSound self.now }
     {
@@ -234,9 +238,9 @@ impl Cache {
         self.blocks.clear();
     }
 
-    /// Whether a block lies wholly in what is wanted and isn't there.
+    /// Returns whether a block lies wholly in `wanted` and isn't there.
     ///
-    /// `file_length` is the length of the file. A block at its end is no block.
+    /// `file_length` is the length of the file in bytes. A block that begins at the file's end or after it is none.
     pub fn wants(&self, file_length: u64, wanted: Span, block: u64) -> bool
         ensures { result ≡ is_wanted self.now file_length wanted block }
     {
@@ -246,7 +250,7 @@ impl Cache {
         last_of(block, file_length) <= wanted.last && !self.blocks.contains(&block)
     }
 
-    /// How many of the blocks from one number up to another are there.
+    /// Returns how many of the blocks from `from` on and before `to` are there.
     pub fn present(&self, from: u64, to: u64) -> u64
         requires { from ≤ to }
         ensures { result + missing (numbers self.now.entries) from (to - from) ≡ to - from }
@@ -254,8 +258,8 @@ impl Cache {
         count_present(&self.blocks, from, to)
     }
 
-    /// Where the run of missing blocks ends that begins with a block, before another one. Where the block is there, that is
-    /// the block itself.
+    /// Returns the end of the run of missing blocks that begins with block `from`, at most `to`. It is `from` itself
+    /// where that block is there.
     pub fn run_end(&self, from: u64, to: u64) -> u64
         requires { from ≤ to }
         ensures { IsRunEnd (numbers self.now.entries) from to result }
@@ -263,7 +267,7 @@ impl Cache {
         end_of_run(&self.blocks, from, to)
     }
 
-    /// How many blocks it has at most, 66 to 4,096.
+    /// Returns how many blocks it has at most, 66 to 4,096.
     pub fn capacity(&self) -> u32
         ensures exact { result ≡ self.now.capacity }
         ensures sound { IsSound self.now }

@@ -1,4 +1,4 @@
-//! A bounded cache of the blocks of one file.
+//! Keeps blocks of one file in a bounded cache.
 #![tactic(auto)]
 
 mod blocks;

@@ -4,52 +4,54 @@ ghost use Rattle.tiff_dir.specs.declared.fault.WalkError.TheVariants.{File, Memo
 
 use std::alloc::{AllocError, AllocFailed};
 
-/// What is wrong with a file (TIFF 6.0 in this profile; GeoTIFF 1.1, OGC 19-008, section 7.1), or with what is asked of it. A
-/// file may have several.
+/// What is wrong with a file, or with what is asked of it. The rules are those of TIFF 6.0 in this profile, and of
+/// GeoTIFF 1.1 (OGC 19-008, section 7.1). A file may have several faults.
 #[derive(Clone, Copy, Debug, PartialEq, Eq)]
 pub enum FileFault {
     /// The byte order marks or the number 42 are wrong.
     Header,
-    /// A range that the query needs ends after the file.
+    /// A byte range that the query needs ends after the file.
     PastEnd,
-    /// A directory's offset is odd or below 8.
+    /// The offset of a directory is odd or below 8.
     DirPlace,
     /// A directory has no entries, or more than 256.
     DirCount,
-    /// A tag is not greater than the one before.
+    /// The tag of an entry isn't greater than the one before.
     TagOrder,
-    /// A next offset other than 0 stands after 16 directories.
+    /// An offset of a next directory other than 0 stands after 16 directories.
     TooManyDirs,
-    /// A level lacks this tag.
+    /// A level lacks the field with this tag.
     Missing(u16),
-    /// This tag has another type or count.
+    /// The field with this tag has another type or count.
     FieldType(u16),
-    /// A value of this tag is outside the profile.
+    /// A value of the field with this tag is outside the profile.
     Unsupported(u16),
-    /// A side is 0, the first directory is a reduced-resolution image, or a level is not smaller than the one before.
+    /// A side is 0, the first directory is a reduced-resolution image, or a level isn't smaller than the one before.
     LevelShape,
     /// An array of tiles has another count than there are tiles, or there are more than 65,536 tiles.
     TileArray,
     /// A tile's side, plain size or byte count is wrong.
     TileSize,
-    /// The packed bytes of a tile are no packets that fill it.
+    /// The packed bytes of a tile aren't packets that fill it.
     Packet,
-    /// The window is empty, by 0 columns, in no level, or passes a side of the level that its numbers are given in.
+    /// The window is empty, asks for 0 columns, or has a level that isn't there. Or it passes a side of the level that
+    /// its numbers are given in.
     Outside,
     /// The window has more than 4,194,304 samples, or a field that georeferences the image more than 65,536 bytes.
     TooLarge,
     /// The key directory's version, revision or length is wrong.
     KeyHead,
-    /// A key is not greater than the one before.
+    /// A key isn't greater than the one before.
     KeyOrder,
-    /// A key's values are in no field, or past its end, or the key is its value and has another Count than 1.
+    /// The values of a key stand in no field, or end after their field. Or the value stands in the key's entry, and its
+    /// Count isn't 1.
     KeyPlace,
 }
 
 impl FileFault {
     ghost use Rattle.tiff_dir.specs.FaultNumber.{number_of_fault, tag_of_fault};
 
-    /// The number under which the fault is told, 1 to 18.
+    /// Returns the number of the fault, 1 to 18.
     pub fn number(self) -> u8
         ensures { result ≡ number_of_fault self }
     {
@@ -75,7 +77,7 @@ impl FileFault {
         }
     }
 
-    /// The field that the fault is about, for the faults that are about one.
+    /// Returns the tag of the field that the fault is about, or `None` where it is about none.
     pub fn tag(self) -> Option<u16>
         ensures { result ≡ tag_of_fault self }
     {
@@ -88,12 +90,12 @@ impl FileFault {
     }
 }
 
-/// Why a call that reads bytes of a file refused.
+/// Why a call that reads bytes of a file fails.
 #[derive(Clone, Copy, Debug, PartialEq, Eq)]
 pub enum WalkError {
     /// The file has this fault.
     File(FileFault),
-    /// No memory was left.
+    /// An allocation failed.
     Memory,
 }
 

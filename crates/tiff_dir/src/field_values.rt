@@ -1,6 +1,6 @@
 //! The values of fields that the profile accepts, under the standard's names (TIFF 6.0, sections 4, 6, 8, 9 and 19).
 
-/// Compression: tiles as they are (section 8).
+/// Compression: the bytes of tiles aren't packed (section 8).
 pub const COMPRESSION_NONE: u16 = 1;
 
 /// Compression: packets of PackBits (section 9).
@@ -18,5 +18,5 @@ pub const CHUNKY: u16 = 1;
 /// PlanarConfiguration: each sample stands in a plane of its own (section 8).
 pub const PLANAR: u16 = 2;
 
-/// SampleFormat: numbers with no sign (section 19).
+/// SampleFormat: numbers without a sign (section 19).
 pub const UNSIGNED_INTEGER: u16 = 1;

@@ -58,7 +58,7 @@ const TRANSFORMATION: Rule = Rule {
     required: false,
 };
 
-/// Where the values of the geo fields stand, of those that the first directory has.
+/// The places of the values of the geo fields. A field that the first directory hasn't is `None`.
 #[derive(Clone, Copy, Debug, PartialEq, Eq)]
 pub struct GeoPlaces {
     /// GeoKeyDirectory (34735): SHORT.
@@ -75,7 +75,7 @@ pub struct GeoPlaces {
     pub transformation: Option<Place>,
 }
 
-/// The entries of the geo fields, of those that the first directory has.
+/// The entries of the geo fields. A field that the first directory hasn't is `None`.
 #[derive(Clone, Copy)]
 pub struct GeoEntries {
     pub directory: Option<DirectoryEntry>,
@@ -86,7 +86,8 @@ pub struct GeoEntries {
     pub transformation: Option<DirectoryEntry>,
 }
 
-/// Where the values of the rule's field stand, if its entry is there.
+/// Returns the place of the values of the rule's field, if its entry is there. Fails with `FieldType` where the type or
+/// the count is another, and with `TooLarge` where the values have more than 65,536 bytes.
 fn place_by(rule: Rule, entry: Option<DirectoryEntry>) -> Result<Option<Place>, FileFault>
     requires { ForSome entry (λ e. e.place + 8 < 2 ^ 33) }
     ensures place { result ≡ place_by rule entry }
@@ -106,7 +107,7 @@ fn place_by(rule: Rule, entry: Option<DirectoryEntry>) -> Result<Option<Place>, 
 }
 
 impl GeoEntries {
-    /// None of them.
+    /// Returns entries of which none is there.
     pub const fn none() -> GeoEntries
         ensures near { AreNear result }
     {
@@ -120,7 +121,7 @@ impl GeoEntries {
         }
     }
 
-    /// Those that a table has.
+    /// Returns the entries of the geo fields that a table has.
     pub fn of(table: &Table<'_>) -> GeoEntries
         ensures entries { result ≡ geo_in (entries_of table.now) }
         ensures near { AreNear result }
@@ -135,7 +136,7 @@ impl GeoEntries {
         }
     }
 
-    /// Where the values of the geo fields stand, or what is wrong with the first of them.
+    /// Returns the places of the values of the geo fields. Fails with the fault of the first field that has one.
     pub fn places(self) -> Result<GeoPlaces, FileFault>
         requires { AreNear self }
         ensures places { MatchResult result (ArePlacesBy self) (IsFaultBy self) }

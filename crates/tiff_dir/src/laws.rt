@@ -1,4 +1,4 @@
-//! Laws of the definitions, which upper crates rest on. Each function does nothing: its contract is the law.
+//! Laws of the definitions, for the crates above. Each function does nothing: its contract is the law.
 ghost use Rattle.std.specs.Prelude.{◌≡◌, ℕ, List, [], Some, slice_get};
 ghost use Rattle.extents.specs.declared.limits.TheConstants.{BLOCK_SIZE, MAX_RANGE_BYTES};
 ghost use Rattle.tiff_dir.specs.declared.limits.TheConstants.{MAX_DIRECTORIES, MAX_ENTRIES, MAX_GEO_BYTES, MAX_PACKET_BYTES, MAX_TILES, MAX_TILE_BYTES, MAX_WINDOW_SAMPLES};
@@ -17,7 +17,7 @@ ghost use Rattle.tiff_dir.specs.Walk.{to_come, WalkAgrees, HasEnded, IsDescribed
 ghost use Rattle.tiff_dir.specs.Packets.{PacketsAreApart, TextsAreUnique};
 ghost use Rattle.tiff_dir.specs.Faulty.{IsFaulty, IsWindow};
 
-/// The limits of the profile, in numbers.
+/// States the limits of the profile, in numbers.
 pub fn law_profile_limits_are()
     ensures directories { MAX_DIRECTORIES ≡ 16 }
     ensures entries { MAX_ENTRIES ≡ 256 }
@@ -30,7 +30,7 @@ pub fn law_profile_limits_are()
     ensures block { BLOCK_SIZE ≡ 16384 }
 {}
 
-/// The numbers of the tags (TIFF 6.0, sections 8, 15 and 19; GeoTIFF 1.1, OGC 19-008, sections 7.1 and 8).
+/// States the numbers of the tags (TIFF 6.0, sections 8, 15 and 19; GeoTIFF 1.1, OGC 19-008, sections 7.1 and 8).
 pub fn law_tags_are()
     ensures new_subfile_type { NEW_SUBFILE_TYPE ≡ 254 }
     ensures image_width { IMAGE_WIDTH ≡ 256 }
@@ -64,19 +64,20 @@ pub fn law_field_values_are()
     ensures unsigned_integer { UNSIGNED_INTEGER ≡ 1 }
 {}
 
-/// A file has one window for a query.
+/// States that a file has at most one window for a query.
 pub fn law_one_window()
     ensures window { (f : List ℕ) (q : Query) (v u : List ℕ) → IsWindow f q v → IsWindow f q u → v ≡ u }
 {}
 
-/// A file in which no fault stands for a window has one: that it has none is impossible.
+/// States that a file has a window where no fault stands for it: that it has none is impossible.
 pub fn law_some_window()
     ensures window { (f : List ℕ) (x y width height : ℕ) (pick : Pick)
         → ((fault : FileFault) → IsFaulty f (Window x y width height pick) fault → ⊥)
         → ((v : List ℕ) → IsWindow f (Window x y width height pick) v → ⊥) → ⊥ }
 {}
 
-/// What a walk has still to take is the end of what the directories need: nothing when it has ended.
+/// States that what a walk has still to take is the end of what the directories need. This is nothing when it has
+/// ended.
 pub fn law_what_comes()
     ensures end { (w : WalkState) (f : List ℕ) → IsEndOf (to_come w f) (needs_of_directories f) }
     ensures over { (w : WalkState) (f : List ℕ) → WalkAgrees w f → HasEnded w → to_come w f ≡ [] }
@@ -84,13 +85,14 @@ pub fn law_what_comes()
     ensures clean { (w : WalkState) (f : List ℕ) → WalkAgrees w f → HasEnded w → (fault : FileFault) → IsFaultOfDirectories f fault → ⊥ }
 {}
 
-/// The levels of a file are what it says of them: each has the values of its number's directory.
+/// States that the levels of a file are what the file says of them: each has the values of the directory with its
+/// number.
 pub fn law_levels_are_described()
     ensures described { (f : List ℕ) (levels : List Level) (n : ℕ) (l : Level) → AreLevels f levels → slice_get levels n ≡ Some l
         → IsDescribed f n l }
 {}
 
-/// Bytes are packets in one way, and stand for one text.
+/// States that bytes are packets in at most one way, and stand for at most one text.
 pub fn law_one_text()
     ensures packet { PacketsAreApart }
     ensures text { TextsAreUnique }

@@ -26,7 +26,7 @@ pub enum Kind {
 }
 
 impl Kind {
-    /// How many bytes a value of the type has.
+    /// Returns how many bytes a value of the type has.
     pub fn size(self) -> u64
         ensures size { result ≡ size_of self }
         ensures some { 0 < result }
@@ -41,20 +41,21 @@ impl Kind {
     }
 }
 
-/// Where a field's values stand, in the entry or outside it. It is no span, since a field may have no values, and it says of
-/// which type they are and how many.
+/// The place of a field's values, in the entry or outside it, with their type and their number. It is no span, since a
+/// field may have no values.
 #[derive(Clone, Copy, Debug, PartialEq, Eq)]
 pub struct Place {
-    /// The first byte's position in the file.
+    /// The position of the first byte in the file, from 0.
     pub first: u64,
-    /// How many bytes there are: `count` times the type's size.
+    /// The number of bytes: `count` times the type's size.
     pub len: u64,
-    /// How many values.
+    /// The number of values.
     pub count: u32,
+    /// The type of the values.
     pub kind: Kind,
 }
 
-/// How the bytes of a tile are packed, where they are.
+/// How the bytes of a tile are packed.
 #[derive(Clone, Copy, Debug, PartialEq, Eq)]
 pub enum Codec {
     /// Row by row in packets (TIFF 6.0, section 9).
@@ -73,7 +74,8 @@ pub enum Compression {
 impl Compression {
     ghost use Rattle.tiff_dir.specs.Level.{compression_of};
 
-    /// Reads the number of a Compression field, and returns None for a number that the profile doesn't have.
+    /// Returns the compression that has this number in a Compression field. Returns `None` for a number that the
+    /// profile doesn't have.
     pub fn of_number(value: u16) -> Option<Compression>
         ensures { result ≡ compression_of value }
     {
@@ -85,18 +87,26 @@ impl Compression {
     }
 }
 
-/// One image of a file, as the profile allows it: sides and tile sides in pixels, the samples of a pixel, the bits of a
-/// sample, and where the arrays of tile offsets and tile byte counts stand.
+/// One image of a file, as the profile allows it.
 #[derive(Clone, Copy, Debug, PartialEq, Eq)]
 pub struct Level {
+    /// ImageWidth, in pixels.
     pub width: u32,
+    /// ImageLength, in pixels.
     pub length: u32,
+    /// TileWidth, in pixels.
     pub tile_width: u32,
+    /// TileLength, in pixels.
     pub tile_length: u32,
+    /// SamplesPerPixel, 1 or 3.
     pub samples: u16,
+    /// BitsPerSample, 8 or 16.
     pub bits: u16,
+    /// How the bytes of its tiles are packed, if they are.
     pub compression: Compression,
+    /// The place of the array TileOffsets.
     pub offsets: Place,
+    /// The place of the array TileByteCounts.
     pub counts: Place,
     ghost sides: { (0 < width) × (0 < length) },
     ghost tile_sides: { IsTrue (is_tile_side tile_width) × IsTrue (is_tile_side tile_length) },
@@ -111,7 +121,7 @@ pub struct Level {
     ghost near: { (offsets.first < 2 ^ 33) × (counts.first < 2 ^ 33) },
 }
 
-/// How many tiles cover a side.
+/// Returns how many tiles cover a side.
 pub(crate) fn tiles_along(side: u32, tile_side: u32) -> u32
     requires side { 0 < side }
     requires tile { 0 < tile_side }
@@ -125,7 +135,7 @@ impl Level {
     ghost use Rattle.tiff_dir.specs.Described.{grid_of, layout_of};
     ghost use Rattle.tiff_dir.specs.Level.{across, pixel_size, plain_row, plain_size};
 
-    /// How many tiles stand side by side.
+    /// Returns how many tiles stand side by side.
     pub fn tiles_across(&self) -> u32
         ensures count { result ≡ across (grid_of self.now) }
         ensures some { 0 < result }
@@ -133,7 +143,7 @@ impl Level {
         tiles_along(self.width, self.tile_width)
     }
 
-    /// How many bytes a pixel has.
+    /// Returns how many bytes a pixel has.
     pub fn pixel_size(&self) -> usize
         ensures size { result ≡ pixel_size (layout_of self.now) }
         ensures some { 0 < result }
@@ -142,7 +152,7 @@ impl Level {
         usize::from(self.samples) * usize::from(self.bits / 8)
     }
 
-    /// How many bytes a row of a tile has when it is unpacked.
+    /// Returns how many bytes a row of an unpacked tile has.
     pub fn plain_row(&self) -> usize
         ensures row { result ≡ plain_row (layout_of self.now) }
         ensures some { 0 < result }
@@ -150,7 +160,7 @@ impl Level {
         self.tile_width as usize * self.pixel_size()
     }
 
-    /// How many bytes a tile has when it is unpacked.
+    /// Returns how many bytes an unpacked tile has.
     pub fn plain_size(&self) -> usize
         ensures size { result ≡ plain_size (layout_of self.now) }
         ensures few { result ≤ MAX_TILE_BYTES }

@@ -23,24 +23,25 @@ use crate::table::Table;
 use crate::tags::{BITS_PER_SAMPLE, NEW_SUBFILE_TYPE, SAMPLE_FORMAT};
 use crate::{FileFault, Level, Order};
 
-/// How many samples a pixel has whose BitsPerSample doesn't fit in the entry.
+/// The number of samples of a pixel whose BitsPerSample doesn't fit in the entry.
 const COLOUR_SAMPLES: u16 = 3;
 
-/// The first directory is a reduced-resolution image.
+/// Returns whether the first directory is a reduced-resolution image.
 fn is_reduced_first(index: u32, subfile: u32) -> bool
     ensures { result ≡ ((index == 0) && (subfile % 2 == 1)) }
 {
     index == 0 && subfile % 2 == 1
 }
 
-/// The directory is the first, or its NewSubfileType is 1.
+/// Returns whether the directory is the first, or its NewSubfileType is 1.
 fn counts_as_level(index: u32, subfile: u32) -> bool
     ensures { result ≡ ((index == 0) || (subfile == 1)) }
 {
     index == 0 || subfile == 1
 }
 
-/// Whether the directory is a level, by the fields that are looked at in every directory.
+/// Returns whether the directory is a level, by the fields that are looked at in every directory. Fails with their
+/// first fault.
 pub(crate) fn check_directory(index: u32, table: &Table<'_>) -> Result<bool, FileFault>
     ensures first { IfOk result (λ level. level ≡ false → 0 < index) }
     ensures told { (f : List ℕ) → IsTableOf f table.now.order index table.now.at table.now.entries table.now.bytes.now
@@ -58,7 +59,7 @@ pub(crate) fn check_directory(index: u32, table: &Table<'_>) -> Result<bool, Fil
     Ok(counts_as_level(index, subfile))
 }
 
-/// What the entries of a level say of it, where they keep the profile.
+/// Returns what the entries of a level say of it. Fails with their first fault against the profile.
 fn read_level(table: &Table<'_>) -> Result<Draft, FileFault>
     ensures read { MatchResult result (IsReadIn (entries_of table.now)) (IsReadFault (entries_of table.now)) }
     ensures bounded { IfOk result IsDraft }
@@ -69,7 +70,8 @@ fn read_level(table: &Table<'_>) -> Result<Draft, FileFault>
     Ok(table.draft(compression))
 }
 
-/// Reads the entries of a level: its values are in them, or three of BitsPerSample stand outside.
+/// Reads the entries of a level. Its values stand in them, but for three of BitsPerSample or SampleFormat. Fails with
+/// their first fault.
 pub(crate) fn after_level(
     index: u32,
     table: &Table<'_>,
@@ -111,14 +113,14 @@ pub(crate) fn after_level(
     finish(pending, bits, previous)
 }
 
-/// A sample may have so many bits.
+/// Returns whether a sample may have `bits` bits.
 fn is_depth(bits: u16) -> bool
     ensures { result ≡ is_depth bits }
 {
     bits == 8 || bits == 16
 }
 
-/// The three numbers are all this one.
+/// Returns whether each of the three numbers is `value`.
 fn are_all(order: Order, bytes: &[u8], value: u16) -> bool
     requires { length bytes.now ≡ 6 }
     ensures { result ≡ ((number_in order 0 2 bytes.now == value) &&
@@ -129,7 +131,7 @@ fn are_all(order: Order, bytes: &[u8], value: u16) -> bool
         && order.short_at(bytes, 4) == value
 }
 
-/// The three numbers, where they are one and the same depth of a sample.
+/// Returns the depth of a sample that all three numbers are, or `None`.
 fn depth_of(order: Order, bytes: &[u8]) -> Option<u16>
     requires { length bytes.now ≡ 6 }
     ensures { result ≡ depth_in order bytes.now }
@@ -142,7 +144,8 @@ fn depth_of(order: Order, bytes: &[u8]) -> Option<u16>
     }
 }
 
-/// Takes the values of BitsPerSample, and goes on to those of SampleFormat if they stand outside.
+/// Takes the values of BitsPerSample, and goes on to those of SampleFormat if they stand outside the entry. Fails with
+/// the level's first fault.
 pub(crate) fn after_bits(
     pending: Pending,
     first: u32,
@@ -174,7 +177,7 @@ pub(crate) fn after_bits(
     finish(pending, bits, previous)
 }
 
-/// Takes the values of SampleFormat.
+/// Takes the values of SampleFormat. Fails with the level's first fault.
 pub(crate) fn after_formats(
     pending: Pending,
     first: u32,
@@ -200,7 +203,7 @@ pub(crate) fn after_formats(
     finish(pending, bits, previous)
 }
 
-/// The level of a draft of the profile.
+/// Returns the level of a draft that keeps the profile.
 fn level_of(draft: Draft, bits: u16) -> Level
     requires draft { IsDraft draft }
     requires depth { is_depth bits ≡ true }
@@ -222,7 +225,7 @@ fn level_of(draft: Draft, bits: u16) -> Level
     }
 }
 
-/// Ends a level whose values are all read, and goes to the next directory.
+/// Ends a level whose values are all read, and goes to the next directory. Fails with the first fault.
 fn finish(pending: Pending, bits: u16, previous: Option<Level>) -> Result<WalkStep, FileFault>
     requires few { pending.index < MAX_DIRECTORIES }
     requires draft { IsDraft pending.draft }

@@ -1,4 +1,4 @@
-//! The directories of a tiled TIFF file, read by single byte ranges.
+//! Reads the directories of a tiled TIFF file by single byte ranges.
 #![tactic(auto)]
 
 mod fault;

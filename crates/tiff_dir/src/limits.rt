@@ -1,4 +1,4 @@
-//! The limits of this profile, each once: what is past one is refused. Those of ranges and blocks stand in `extents`.
+//! The limits of this profile, each once. What is past one is refused. Those of ranges and blocks stand in `extents`.
 pub use extents::{BLOCK_SIZE, MAX_RANGE_BYTES};
 
 /// The most directories of a file.

@@ -8,7 +8,8 @@ use crate::limits::MAX_DIRECTORIES;
 use crate::stage::Stage;
 use crate::{FileFault, Order};
 
-/// Goes to directory `index`, of which `at` is told, or to the end.
+/// Goes to directory `index` at offset `at`. After the first directory the offset 0 is the end. Fails with
+/// `TooManyDirs` or `DirPlace`.
 pub(crate) fn next(order: Order, index: u32, at: u32) -> Result<Stage, FileFault>
     requires { index ≤ MAX_DIRECTORIES }
     ensures index { IfOk result (λ stage. index_of stage ≡ index) }

@@ -15,7 +15,7 @@ pub enum Order {
 impl Order {
     ghost use Rattle.tiff_dir.specs.Number.{number_in};
 
-    /// The number of the two bytes from `at`.
+    /// Returns the number in the two bytes from `at` on.
     pub(crate) fn short_at(self, bytes: &[u8], at: usize) -> u16
         requires { at + 2 ≤ length bytes.now }
         ensures { result ≡ number_in self at 2 bytes.now }
@@ -26,7 +26,7 @@ impl Order {
         }
     }
 
-    /// The number of the four bytes from `at`.
+    /// Returns the number in the four bytes from `at` on.
     pub(crate) fn long_at(self, bytes: &[u8], at: usize) -> u32
         requires { at + 4 ≤ length bytes.now }
         ensures { result ≡ number_in self at 4 bytes.now }

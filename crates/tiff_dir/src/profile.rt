@@ -98,7 +98,8 @@ const PROFILE: [Rule; 13] = [
     },
 ];
 
-/// The type is the rule's, and so is a count that is to be one.
+/// Returns whether the entry has a type that the rule names. It also has to have the rule's count, unless that depends
+/// on samples or tiles.
 pub(crate) fn is_allowed(rule: Rule, entry: DirectoryEntry) -> bool
     ensures { result ≡ allows rule entry }
 {
@@ -119,7 +120,7 @@ pub(crate) fn is_allowed(rule: Rule, entry: DirectoryEntry) -> bool
 }
 
 impl Table<'_> {
-    /// Whether the table has the field of the rule as the rule says.
+    /// Checks that the table has the field of the rule as the rule says. Fails with `FieldType`, or with `Missing`.
     pub fn check_rule(&self, rule: Rule) -> Result<(), FileFault>
         ensures { MatchResult result (λ _. keeps (entries_of self.now) rule ≡ true) (IsEntryFault rule (entries_of self.now)) }
     {
@@ -131,7 +132,7 @@ impl Table<'_> {
         }
     }
 
-    /// Whether the table has the field of each rule as the rule says.
+    /// Checks that the table has the field of each rule as the rule says. Fails with the first fault.
     fn check_rules(&self, rules: &[Rule]) -> Result<(), FileFault>
         ensures { MatchResult result (λ _. AllPass (keeps (entries_of self.now)) rules.now) (IsFaultOfEntries rules.now
             (entries_of self.now)) }
@@ -142,7 +143,8 @@ impl Table<'_> {
         Ok(())
     }
 
-    /// Whether the table has each field of the profile as the profile says, but for the counts of samples and tiles.
+    /// Checks that the table has each field of the profile as the profile says. Counts of samples and tiles aren't
+    /// looked at. Fails with the first fault.
     #[tactic(auto, unfolding(crate::specs::Profile::profile))]
     pub fn check_profile(&self) -> Result<(), FileFault>
         ensures { MatchResult result (λ _. AllPass (keeps (entries_of self.now)) profile) (IsFaultOfEntries profile (entries_of self.now)) }

@@ -18,7 +18,7 @@ pub enum ValueCount {
     /// As many as the level has tiles.
     Tiles,
     Exactly(u32),
-    /// So many, or another multiple of it but 0.
+    /// A multiple of this number, but not 0.
     Multiple(u32),
 }
 

@@ -9,7 +9,7 @@ use crate::limits::{MAX_TILE_BYTES, MAX_TILES};
 use crate::stage::Draft;
 use crate::{FileFault, Level};
 
-/// The sides are not 0, and smaller than those of the level before.
+/// Returns whether the sides aren't 0, and the level is smaller than the one before.
 fn fits_below(previous: Option<Level>, draft: Draft) -> bool
     ensures { result ≡ fits_under previous draft }
 {
@@ -37,7 +37,7 @@ fn product(a: u32, b: u32) -> u64
     u64::from(a) * u64::from(b)
 }
 
-/// Whether a tile of these sides has at most as many bytes as the profile allows.
+/// Returns whether a tile of these sides has at most as many bytes as the profile allows.
 fn is_small(width: u32, length: u32, samples: u16, bits: u16) -> bool
     requires samples { 0 < samples }
     requires bits { 8 ≤ bits }
@@ -47,7 +47,7 @@ fn is_small(width: u32, length: u32, samples: u16, bits: u16) -> bool
     area <= MAX_TILE_BYTES && area * u64::from(samples) * u64::from(bits / 8) <= MAX_TILE_BYTES
 }
 
-/// The tile sides and the plain size of a tile are those of the profile.
+/// Returns whether the tile sides and the plain size of a tile are those of the profile.
 fn has_right_tiles(draft: Draft, bits: u16) -> bool
     requires samples { 0 < draft.samples }
     requires bits { 8 ≤ bits }
@@ -58,7 +58,7 @@ fn has_right_tiles(draft: Draft, bits: u16) -> bool
         && is_small(draft.tile_width, draft.tile_length, draft.samples, bits)
 }
 
-/// There are not too many tiles, and as many offsets and byte counts.
+/// Returns whether there are not too many tiles, and as many offsets and byte counts.
 fn has_right_arrays(draft: Draft) -> bool
     requires sides { has_sides draft ≡ true }
     requires tile_sides { (0 < draft.tile_width) × (0 < draft.tile_length) }
@@ -72,7 +72,8 @@ fn has_right_arrays(draft: Draft) -> bool
         && tiles == u64::from(draft.counts.count)
 }
 
-/// Whether the level of a draft has the shape that the profile asks for.
+/// Checks that the level of a draft has the shape that the profile asks for. Fails with `LevelShape`, `TileSize` or
+/// `TileArray`.
 pub(crate) fn check_shape(previous: Option<Level>, draft: Draft, bits: u16) -> Result<(), FileFault>
     requires samples { 0 < draft.samples }
     requires bits { 8 ≤ bits }

@@ -1,7 +1,7 @@
 //! Where a walk stands, and what it has read of the directory that it is in.
 use crate::{Compression, Level, Order, Place};
 
-/// What a directory says of its level in the entries: all but the bits of a sample.
+/// What the entries of a directory say of its level: all but the bits of a sample.
 #[derive(Clone, Copy)]
 pub struct Draft {
     pub width: u32,
@@ -14,7 +14,7 @@ pub struct Draft {
     pub counts: Place,
 }
 
-/// A level whose values outside the entries are still to be read: its directory and the place of the next one.
+/// A level whose values outside the entries are still to be read: its directory, and the offset of the next one.
 #[derive(Clone, Copy)]
 pub struct Pending {
     pub order: Order,
@@ -23,30 +23,30 @@ pub struct Pending {
     pub draft: Draft,
 }
 
-/// What the walk wants next.
+/// What the walk needs next.
 #[derive(Clone, Copy)]
 pub enum Stage {
     Header,
-    /// How many entries the directory has.
+    /// The number of entries of the directory.
     ValueCount {
         order: Order,
         index: u32,
         at: u32,
     },
-    /// The entries, and the place of the next directory.
+    /// The entries, and the offset of the next directory.
     Table {
         order: Order,
         index: u32,
         at: u32,
         entries: u16,
     },
-    /// The three values of BitsPerSample; then those of SampleFormat, if they stand outside too.
+    /// The three values of BitsPerSample. Those of SampleFormat follow, if they stand outside the entry, too.
     Bits {
         pending: Pending,
         first: u32,
         formats: Option<u32>,
     },
-    /// The three values of SampleFormat; those of BitsPerSample are all this one, or outside the profile.
+    /// The three values of SampleFormat. Those of BitsPerSample are all `bits`, or outside the profile.
     Formats {
         pending: Pending,
         first: u32,
@@ -58,7 +58,7 @@ pub enum Stage {
     },
 }
 
-/// What a range told: where the walk goes on, and the level that it ended, if one.
+/// What a range of bytes leads to: where the walk goes on, and the level that ended with it, if one did.
 #[derive(Clone, Copy)]
 pub struct WalkStep {
     pub stage: Stage,

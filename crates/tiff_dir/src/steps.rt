@@ -1,4 +1,4 @@
-//! One step of the walk for each range that it wants.
+//! One step of the walk for each range that it needs.
 ghost use Rattle.std.specs.Prelude.{◌≡◌, ℕ, ◌+◌, ◌*◌, ◌<◌, ◌≤◌, ◌^◌, List, true, false, IsSomeAnd, IfSome, IfOk, length, MatchResult};
 ghost use Rattle.std.specs.Option.{option_map};
 ghost use Rattle.extents.specs.declared.limits.TheConstants.{MAX_RANGE_BYTES};
@@ -20,7 +20,7 @@ use crate::stage::{Stage, WalkStep};
 use crate::table::Table;
 use crate::{FileFault, Level, Order, Span};
 
-/// The order that the first two bytes name.
+/// Returns the byte order that the first two bytes name.
 #[tactic(auto, unfolding(crate::specs::File::order_of))]
 fn order_in(bytes: &[u8]) -> Option<Order>
     requires { length bytes.now ≡ 8 }
@@ -35,7 +35,7 @@ fn order_in(bytes: &[u8]) -> Option<Order>
     }
 }
 
-/// The header tells the order and the place of the first directory.
+/// Reads the header, which has the byte order and the offset of the first directory. Fails with its first fault.
 fn after_header(bytes: &[u8]) -> Result<WalkStep, FileFault>
     requires { length bytes.now ≡ 8 }
     ensures next { IfOk result (IsNext Stage.Header 1) }
@@ -52,7 +52,7 @@ fn after_header(bytes: &[u8]) -> Result<WalkStep, FileFault>
     Ok(WalkStep { stage, level: None })
 }
 
-/// The first two bytes of a directory tell how many entries it has.
+/// Reads the first two bytes of a directory, the number of its entries. Fails with `DirCount`.
 fn after_count(order: Order, index: u32, at: u32, bytes: &[u8]) -> Result<WalkStep, FileFault>
     requires few { index < MAX_DIRECTORIES }
     requires whole { length bytes.now ≡ 2 }
@@ -73,7 +73,7 @@ fn after_count(order: Order, index: u32, at: u32, bytes: &[u8]) -> Result<WalkSt
     Ok(WalkStep { stage, level: None })
 }
 
-/// The table tells the entries of a directory, and the place of the next one.
+/// Reads the table of a directory: its entries, and the offset of the next directory. Fails with its first fault.
 fn after_table(
     order: Order,
     index: u32,
@@ -102,7 +102,7 @@ fn after_table(
     Ok(WalkStep { stage, level: None })
 }
 
-/// One step of the walk, by the bytes of the range that it wants.
+/// Makes one step of the walk, by the bytes of the range that it needs. Fails with the first fault that they show.
 pub(crate) fn step(
     stage: Stage,
     bytes: &[u8],
@@ -139,7 +139,8 @@ pub(crate) fn step(
     }
 }
 
-/// The entries of the geo fields, once the first directory's table is among the bytes that were given.
+/// Returns the entries of the geo fields. They are read where `bytes` has the first directory's table, and else are
+/// those before.
 pub(crate) fn geo_after(stage: Stage, bytes: &[u8], geo: GeoEntries) -> GeoEntries
     requires whole { IsSomeAnd (range_of stage) (λ r. length bytes.now ≡ r.len) }
     requires kept { (given : ℕ) × IsKept stage given }
@@ -165,7 +166,7 @@ pub(crate) fn geo_after(stage: Stage, bytes: &[u8], geo: GeoEntries) -> GeoEntri
     }
 }
 
-/// The `len` bytes from `first`.
+/// Returns the span of the `len` bytes from `first` on.
 fn span(first: u64, len: u64) -> Span
     requires near { first < 2 ^ 33 }
     requires some { 0 < len }
@@ -179,7 +180,7 @@ fn span(first: u64, len: u64) -> Span
     }
 }
 
-/// The range that a walk wants.
+/// Returns the byte range that a walk needs next, or `None` at the end.
 pub(crate) fn range(stage: Stage) -> Option<Span>
     ensures small { IfSome result (λ s. s.last + 1 ≤ s.first + MAX_RANGE_BYTES) }
     ensures wanted { range_of stage ≡ option_map extent_of_span result }

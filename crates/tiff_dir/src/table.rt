@@ -4,20 +4,20 @@ ghost use Rattle.tiff_dir.specs.declared.limits.TheConstants.{MAX_ENTRIES};
 
 use crate::Order;
 
-/// One entry of a directory: where it stands in the file, and the numbers in its 12 bytes.
+/// One entry of a directory: its position in the file, and the numbers in its 12 bytes.
 #[derive(Clone, Copy)]
 pub struct DirectoryEntry {
     pub tag: u16,
     pub kind: u16,
     pub count: u32,
     pub place: u64,
-    /// The first two of the last four bytes.
+    /// The number in the first two of the last four bytes.
     pub short: u16,
-    /// The last four bytes.
+    /// The number in the last four bytes.
     pub long: u32,
 }
 
-/// The table of the directory at `at`: the bytes of its entries, and of the place of the next directory.
+/// The table of the directory at offset `at`: the bytes of its entries, and of the offset of the next directory.
 #[derive(Clone, Copy)]
 pub struct Table<'b> {
     pub order: Order,
@@ -34,7 +34,7 @@ impl Table<'_> {
     ghost use Rattle.tiff_dir.specs.Number.{number_in};
     ghost use Rattle.tiff_dir.specs.Table.{entries_of, entry_at, field_of, entry_with_tag};
 
-    /// The entry in the 12 bytes from `start`.
+    /// Returns the entry in the 12 bytes from `start` on.
     fn entry_at(&self, start: usize) -> DirectoryEntry
         requires { start + 12 ≤ length self.now.bytes.now }
         ensures { result ≡ entry_at self.now.order (self.now.at + 2) start self.now.bytes.now }
@@ -49,7 +49,7 @@ impl Table<'_> {
         }
     }
 
-    /// The first entry with the tag.
+    /// Returns the first entry with the tag, or `None`.
     pub fn find(&self, tag: u16) -> Option<DirectoryEntry>
         ensures near { IfSome result (λ e. e.place + 8 < 2 ^ 33) }
         ensures first { result ≡ entry_with_tag tag (entries_of self.now) }
@@ -62,7 +62,7 @@ impl Table<'_> {
         None
     }
 
-    /// The tags of the entries ascend.
+    /// Returns whether the tags of the entries ascend.
     pub fn ascends(&self) -> bool
         ensures { result ≡ ascends (map field_of (entries_of self.now)) }
     {
@@ -76,7 +76,7 @@ impl Table<'_> {
         true
     }
 
-    /// The place of the next directory.
+    /// Returns the offset of the next directory.
     pub fn next(&self) -> u32
         ensures { result ≡ number_in self.now.order (12 * self.now.entries) 4 self.now.bytes.now }
     {

@@ -1,5 +1,5 @@
-//! The tags of the fields that are read, under the standard's names: of a level's fields (TIFF 6.0, sections 8, 15 and 19), and of
-//! those that georeference an image (GeoTIFF 1.1, OGC 19-008, sections 7.1 and 8).
+//! The tags of the fields that are read, under the standard's names. Those of a level are in TIFF 6.0, sections 8, 15
+//! and 19. Those that georeference an image are in GeoTIFF 1.1, OGC 19-008, sections 7.1 and 8.
 
 pub const NEW_SUBFILE_TYPE: u16 = 254;
 

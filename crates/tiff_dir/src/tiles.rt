@@ -9,8 +9,9 @@ ghost use Rattle.tiff_dir.specs.Walk.{IsArrayOf};
 use crate::tags::{TILE_BYTE_COUNTS, TILE_OFFSETS};
 use crate::{Kind, Level, Order};
 
-/// The offset and the byte count of tile `t`, in bytes, by the bytes of the level's arrays TileOffsets and TileByteCounts (TIFF
-/// 6.0, section 15) in the file's order. Tiles are numbered left to right, then top to bottom.
+/// Returns the offset and the byte count of tile `t`, in bytes (TIFF 6.0, section 15). `offsets` and `counts` are the
+/// bytes of the level's arrays TileOffsets and TileByteCounts, in byte order `order`. Tiles are numbered left to right,
+/// then top to bottom.
 pub fn tile_of(order: Order, level: &Level, t: u32, offsets: &[u8], counts: &[u8]) -> (u32, u32)
     requires tile { t < tile_total (grid_of level.now) }
     requires offsets { length offsets.now ≡ level.now.offsets.len }

@@ -14,7 +14,7 @@ use crate::tags::{
 };
 use crate::{Compression, FileFault, Kind, Place};
 
-/// The type of this number, of those that the profile has.
+/// Returns the type with this number, of those that the profile has.
 fn kind_in(number: u16) -> Kind
     ensures { result ≡ kind_in number }
 {
@@ -26,7 +26,7 @@ fn kind_in(number: u16) -> Kind
     }
 }
 
-/// Where the values of an entry stand that has a type of the profile.
+/// Returns the place of the values of an entry, which has a type of the profile.
 pub(crate) fn place_of_entry(entry: DirectoryEntry) -> Place
     requires { entry.place + 8 < 2 ^ 33 }
     ensures place { result ≡ place_in entry }
@@ -47,14 +47,14 @@ pub(crate) fn place_of_entry(entry: DirectoryEntry) -> Place
     }
 }
 
-/// One sample goes with BlackIsZero, three with RGB.
+/// Returns whether the number of samples goes with the PhotometricInterpretation: one with BlackIsZero, three with RGB.
 fn fits_samples(samples: u16, photometric: u16) -> bool
     ensures { result ≡ samples_fit samples photometric }
 {
     samples == 1 && photometric == BLACK_IS_ZERO || samples == 3 && photometric == RGB
 }
 
-/// The samples of one pixel stand together.
+/// Returns whether the samples of one pixel stand together.
 fn fits_planes(planar: u16, samples: u16) -> bool
     ensures { result ≡ planes_fit planar samples }
 {
@@ -62,7 +62,7 @@ fn fits_planes(planar: u16, samples: u16) -> bool
 }
 
 impl Table<'_> {
-    /// The only value of a field, or the default where it is absent.
+    /// Returns the only value of a field, or `default` where it is absent.
     pub fn single(&self, tag: u16, default: u32) -> u32
         ensures { result ≡ single_or (entries_of self.now) tag default }
     {
@@ -73,7 +73,7 @@ impl Table<'_> {
         }
     }
 
-    /// The first value of a field of SHORT, or the default where it is absent.
+    /// Returns the first value of a field of SHORT, or `default` where it is absent.
     pub fn short(&self, tag: u16, default: u16) -> u16
         ensures { result ≡ short_or (entries_of self.now) tag default }
     {
@@ -83,7 +83,7 @@ impl Table<'_> {
         }
     }
 
-    /// The last four bytes of a field's entry.
+    /// Returns the number in the last four bytes of a field's entry, or `None` where it is absent.
     pub fn long(&self, tag: u16) -> Option<u32>
         ensures { result ≡ long_in (entries_of self.now) tag }
     {
@@ -93,7 +93,7 @@ impl Table<'_> {
         }
     }
 
-    /// Where the values of the field stand.
+    /// Returns the place of the field's values.
     fn place(&self, tag: u16) -> Place
         ensures place { result ≡ place_or (entries_of self.now) tag }
         ensures array { IsArrayPlace result }
@@ -109,7 +109,7 @@ impl Table<'_> {
         }
     }
 
-    /// Gathers what a table that keeps the profile says of its level, whose compression is known.
+    /// Returns what a table that keeps the profile says of its level, whose compression is known.
     #[tactic(auto, unfolding(crate::specs::Table::draft_in))]
     pub fn draft(&self, compression: Compression) -> Draft
         ensures draft { result ≡ draft_in (entries_of self.now) compression }
@@ -127,7 +127,8 @@ impl Table<'_> {
         }
     }
 
-    /// Checks that the values that always stand in their entries are those of the profile, and returns the compression that they name.
+    /// Checks the values that always stand in their entries, and returns the compression that they name. Fails with
+    /// `Unsupported` where one is outside the profile.
     pub fn check_values(&self) -> Result<Compression, FileFault>
         ensures { MatchResult result (HasValues (entries_of self.now)) (IsValueFault (entries_of self.now)) }
     {
@@ -149,7 +150,7 @@ impl Table<'_> {
         Ok(compression)
     }
 
-    /// Whether the field is absent or has a value for each sample.
+    /// Returns whether the field is absent or has a value for each sample.
     fn has_samples(&self, tag: u16) -> bool
         ensures { result ≡ counts_samples (entries_of self.now) tag }
     {
@@ -160,7 +161,7 @@ impl Table<'_> {
         }
     }
 
-    /// Whether BitsPerSample and SampleFormat have a value for each sample.
+    /// Checks that BitsPerSample and SampleFormat have a value for each sample. Fails with `FieldType`.
     pub fn check_counts(&self) -> Result<(), FileFault>
         ensures { MatchResult result (λ _. HasCounts (entries_of self.now)) (IsCountFault (entries_of self.now)) }
     {

@@ -15,9 +15,11 @@ use crate::{FileFault, Level, Order, Span, WalkError};
 use std::alloc::Global;
 use std::marker::Model;
 
-/// A walk over the directories of a file, which is given one range of it after another: the header (8 bytes), and of each
-/// directory the count of its entries (2 bytes), then the entries and the place of the next directory (12 bytes for each entry,
-/// and 4), and of a level the values of BitsPerSample and SampleFormat that stand outside its entries (6 bytes each).
+/// A walk over the directories of a file, which is given these byte ranges one after another:
+/// - the header, 8 bytes,
+/// - of each directory the number of its entries, 2 bytes,
+/// - then its entries and the offset of the next directory, 12 bytes for each entry, and 4,
+/// - of a level the values of BitsPerSample and SampleFormat that stand outside its entries, 6 bytes each.
 #[derive(Drop)]
 pub struct Walk {
     stage: Stage,
@@ -37,7 +39,7 @@ impl Model for Walk {
     ghost invariant = { λ w. IsSoFar w.stage w.levels.items w.geo w.given };
 }
 
-/// Adds the level, if there is one.
+/// Adds the level, if there is one. Fails with `Memory` alone.
 fn keep(levels: &mut Vec<Level>, level: Option<Level>) -> Result<(), WalkError>
     ensures ok { OnOk result (levels.new.items ≡ levels.old.items ++ option_to_list level) }
     ensures err { OnErr result (levels.new.items ≡ levels.old.items) }
@@ -50,7 +52,7 @@ fn keep(levels: &mut Vec<Level>, level: Option<Level>) -> Result<(), WalkError>
 }
 
 impl Walk {
-    /// A walk that knows nothing yet. It takes no memory.
+    /// Makes a walk that knows nothing yet. It allocates nothing.
     ///
     /// ```
     /// let mut walk = Walk::new(alloc);
@@ -72,8 +74,9 @@ impl Walk {
         }
     }
 
-    /// The range that is wanted next, of a file of `file_length` bytes, or `None` at the end: at most 1,048,576 bytes, all of them
-    /// in the file. Where the range ends after the file, the fault is PastEnd, and the walk stays as it is.
+    /// Returns the byte range that is needed next, or `None` at the end. `file_length` is the file's length in bytes.
+    /// The range has at most 1,048,576 bytes, all of them in the file. Fails with `PastEnd` where it ends after the
+    /// file, and then the walk stays as it is.
     pub fn need(&self, file_length: u64) -> Result<Option<Span>, FileFault>
         ensures wanted { IfOk result (Wants self.now file_length) }
         // The only fault is that the range ends after the file.
@@ -93,7 +96,7 @@ impl Walk {
         Ok(Some(span))
     }
 
-    /// The byte order of the file, when the walk has ended.
+    /// Returns the byte order of the file, after the walk has ended.
     pub fn order(&self) -> Order
         requires { HasEnded self.now }
         ensures order { (f : List ℕ) → WalkAgrees self.now f → order_of f ≡ Some result }
@@ -104,7 +107,8 @@ impl Walk {
         }
     }
 
-    /// The levels of the file, when the walk has ended: one at least, each smaller than the one before.
+    /// Returns the levels of the file, after the walk has ended. There is at least one, and each is smaller than the
+    /// one before.
     pub fn levels(&self) -> &[Level]
         requires { HasEnded self.now }
         ensures levels { (f : List ℕ) → WalkAgrees self.now f → AreLevels f result.now }
@@ -114,9 +118,11 @@ impl Walk {
         self.levels.as_slice()
     }
 
-    /// Where the values of the geo fields stand, when the walk has ended, or what is wrong with them: a type or a count
-    /// (FieldType), or more than 65,536 bytes (TooLarge). The fields are looked at in the order directory, doubles, ascii,
-    /// scale, tiepoints, transformation; what is wrong concerns the query Info alone.
+    /// Returns the places of the values of the geo fields, after the walk has ended. The fields are looked at in the
+    /// order directory, doubles, ascii, scale, tiepoints, transformation. Their faults concern the query `Info` alone.
+    /// Fails with the first of them:
+    /// - `FieldType`: a field has another type or count.
+    /// - `TooLarge`: a field has more than 65,536 bytes.
     pub fn geo_places(&self) -> Result<GeoPlaces, FileFault>
         requires { HasEnded self.now }
         ensures places { IfOk result (λ places. (f : List ℕ) → WalkAgrees self.now f → AreGeoPlaces f places) }
@@ -126,7 +132,7 @@ impl Walk {
         self.geo.places()
     }
 
-    /// How many ranges the walk has taken.
+    /// Returns how many ranges the walk has taken.
     pub fn given(&self) -> u32
         ensures count { result ≡ given_of self.now }
         ensures few { (HasEnded self.now → ⊥) → result ≤ 64 }
@@ -134,8 +140,9 @@ impl Walk {
         self.given
     }
 
-    /// Takes the bytes of the range that is wanted, as many as it has. The fault is the first of the order of the checks that the
-    /// bytes show (1 to 12 but for PastEnd), or Memory where no room for a level was left. An `Err` changes nothing.
+    /// Takes the bytes of the range that is needed next, as many as it has. Fails with the first fault that they show,
+    /// in the order of the checks, or with `Memory`. The numbers of these faults are 1 to 12, but not that of
+    /// `PastEnd`. A failure changes nothing.
     pub fn give(&mut self, bytes: &[u8]) -> Result<(), WalkError>
         requires { IsWanted self.old (length bytes.now) }
         ensures agrees { OnOk result ((f : List ℕ) → WalkAgrees self.old f → IsWantedOf f self.old bytes.now → WalkAgrees self.new f) }

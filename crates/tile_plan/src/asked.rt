@@ -13,15 +13,19 @@ use tiff_dir::{FileFault, Level, Pick, Query};
 /// A window of a level, in the level's own pixels.
 #[derive(Clone, Copy, Debug, PartialEq, Eq)]
 pub struct Rectangle {
-    /// The level's number.
+    /// The number of the level, 0 for the largest.
     pub level: usize,
+    /// The first column, from 0.
     pub x: u32,
+    /// The first row, from 0.
     pub y: u32,
+    /// The number of columns.
     pub w: u32,
+    /// The number of rows.
     pub h: u32,
 }
 
-/// Whether a window isn't empty and lies in the level.
+/// Returns whether a window isn't empty and lies in the level.
 fn is_inside(level: &Level, x: u32, y: u32, w: u32, h: u32) -> bool
     ensures { result ≡ is_inside level.now x y w h }
 {
@@ -36,14 +40,15 @@ fn product(a: u32, b: u32) -> u64
     u64::from(a) * u64::from(b)
 }
 
-/// Whether the level has at least `columns` of `w` columns of a level of width `first`.
+/// Returns whether `w` columns of a level of width `first` are at least `columns` columns of `level`.
 fn has_columns(level: &Level, columns: u32, w: u32, first: u32) -> bool
     ensures { result ≡ has_columns columns w first level.now }
 {
     product(columns, first) <= product(level.width, w)
 }
 
-/// The number of the smallest level in which a window has so many columns: the last one, 0 if there is none.
+/// Returns the number of the smallest level in which the window has `columns` columns or more. The window has `w`
+/// columns in a level of width `first`. It is the last such level, or level 0 if there is none.
 fn smallest(levels: &[Level], columns: u32, w: u32, first: u32) -> usize
     requires some { 0 < length levels.now }
     ensures within { result < length levels.now }
@@ -58,7 +63,8 @@ fn smallest(levels: &[Level], columns: u32, w: u32, first: u32) -> usize
     best
 }
 
-/// A place along a side of level 0, along the same side of another level, rounded down.
+/// Returns the place that `at` has in another level, rounded down. `at` counts pixels along a side of level 0, which
+/// has `first` of them. The same side of the other level has `side` pixels.
 fn scaled_down(side: u32, first: u32, at: u32) -> u32
     requires some { 0 < first }
     requires within { at ≤ first }
@@ -68,7 +74,7 @@ fn scaled_down(side: u32, first: u32, at: u32) -> u32
     (product(at, side) / u64::from(first)) as u32
 }
 
-/// The same, rounded up.
+/// Returns the same as `scaled_down`, rounded up.
 fn scaled_up(side: u32, first: u32, at: u32) -> u32
     requires some { 0 < first }
     requires within { at ≤ first }
@@ -78,7 +84,7 @@ fn scaled_up(side: u32, first: u32, at: u32) -> u32
     ((product(at, side) + u64::from(first) - 1) / u64::from(first)) as u32
 }
 
-/// A window of the first level in another one, rounded outwards.
+/// Returns a window of the first level in the pixels of level `n`, rounded outwards.
 fn scaled(first: &Level, n: usize, level: &Level, x: u32, y: u32, w: u32, h: u32) -> Rectangle
     requires { IsTrue (is_inside first.now x y w h) }
     ensures rectangle { rectangle_of result ≡ outwards n first.now level.now x y w h }
@@ -98,7 +104,7 @@ fn scaled(first: &Level, n: usize, level: &Level, x: u32, y: u32, w: u32, h: u32
     }
 }
 
-/// The level of a number, where the window lies in it.
+/// Returns level `n`. Fails with `Outside` where the window isn't in it, or there is no such level.
 fn level_of(levels: &[Level], n: usize, x: u32, y: u32, w: u32, h: u32) -> Result<&Level, FileFault>
     ensures there { IfOk result (λ l. (slice_get levels.now n ≡ Some l.now) × IsTrue (is_inside l.now x y w h)) }
     ensures outside { IfErr result (λ fault. (fault ≡ FileFault.Outside)
@@ -110,7 +116,7 @@ fn level_of(levels: &[Level], n: usize, x: u32, y: u32, w: u32, h: u32) -> Resul
     }
 }
 
-/// Whether so many pixels have more samples than a window may have.
+/// Returns whether `pixels` pixels of `samples` samples each have more samples than a window may have.
 fn exceeds(pixels: u64, samples: u16) -> bool
     ensures { result ≡ nat_lt MAX_WINDOW_SAMPLES (pixels * samples) }
 {
@@ -120,7 +126,7 @@ fn exceeds(pixels: u64, samples: u16) -> bool
     }
 }
 
-/// The rectangle, where it has no more samples than a window may have.
+/// Returns the rectangle. Fails with `TooLarge` where it has more samples than a window may have.
 fn limited(rect: Rectangle, level: &Level) -> Result<Rectangle, FileFault>
     ensures good { IfOk result (λ r. (r ≡ rect) × (nat_lt MAX_WINDOW_SAMPLES (rect.w * rect.h * level.now.samples) ≡ false)) }
     ensures large { IfErr result (λ fault. (fault ≡ FileFault.TooLarge)
@@ -181,9 +187,10 @@ fn rect_by_columns(
     limited(scaled(first, n, level, x, y, w, h), level)
 }
 
-/// The rectangle that a window query asks for, in the pixels of a level. Where the window isn't in the level that its numbers
-/// are given in, the fault is Outside; where it has more than 4,194,304 samples, TooLarge. `Info` asks for no window, and is
-/// Outside.
+/// Returns the rectangle that a window query asks for, in the pixels of its level. Fails with one of these faults:
+/// - `Outside`: the window is empty, asks for 0 columns, or isn't in the level that its numbers are given in. So is the
+/// query `Info`, which asks for no window.
+/// - `TooLarge`: the rectangle has more than 4,194,304 samples.
 ///
 /// ```
 /// let window = Query::Window { x: 5, y: 0, w: 3, h: 1, pick: Pick::Columns(1) };

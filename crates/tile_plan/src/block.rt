@@ -10,7 +10,7 @@ ghost use Rattle.tile_plan.specs.Plan.{tiles_of};
 use crate::Rectangle;
 use tiff_dir::Level;
 
-/// Some columns and rows of the tiles of a level, which has `across` tiles side by side.
+/// Adjacent columns and rows of the tiles of a level, which has `across` tiles side by side.
 #[derive(Clone, Copy)]
 pub struct Block {
     across: u32,
@@ -23,7 +23,7 @@ pub struct Block {
     ghost few: { (top + rows) * across ≤ MAX_TILES },
 }
 
-/// The first tile along a side that has one of `len` pixels from `at`, and how many have.
+/// Returns the first tile along a side that has one of `len` pixels from `at` on, and how many tiles have one.
 fn touched(at: u32, len: u32, tile_side: u32) -> (u32, u32)
     requires some { 0 < len }
     requires tile { 0 < tile_side }
@@ -38,7 +38,7 @@ fn touched(at: u32, len: u32, tile_side: u32) -> (u32, u32)
 impl Block {
     ghost use Rattle.tile_plan.specs.Block.{tile_of_block};
 
-    /// The tiles of the level that have a pixel of the rectangle.
+    /// Returns the tiles of `level` that have a pixel of `rect`.
     pub fn of(level: &Level, rect: Rectangle) -> Block
         requires { IsTrue (is_inside level.now rect.x rect.y rect.w rect.h) }
         ensures tiles { map (tile_of_block result) (range_with_len 0 (result.columns * result.rows)) ≡ tiles_of level.now rect }
@@ -64,14 +64,14 @@ impl Block {
         }
     }
 
-    /// How many tiles they are.
+    /// Returns the number of these tiles.
     pub fn count(self) -> u32
         ensures { result ≡ self.columns * self.rows }
     {
         self.columns * self.rows
     }
 
-    /// The number of one of them, row by row.
+    /// Returns the number in the level of tile `n` of these, counted row by row from 0.
     pub fn tile(self, n: u32) -> u32
         requires { n < self.columns * self.rows }
         ensures { result ≡ tile_of_block self n }

@@ -2,34 +2,34 @@
 ghost use Rattle.std.specs.Prelude.{◌≡◌, ◌+◌, ◌-◌, ◌≤◌, ℕ, List, length, min};
 ghost use Rattle.std.specs.List.{slice_range};
 
-/// Bytes that stand somewhere, in one piece or in several.
+/// Bytes that stand somewhere, in one piece or in several. Places count from 0.
 pub trait Bytes {
-    /// The bytes.
+    /// Names the bytes.
     ghost bytes: { Self → List ℕ };
 
-    /// How many stand in one piece from a place on.
+    /// Counts the bytes that stand in one piece from a place on.
     ghost piece_len: { Self → ℕ → ℕ };
 
-    /// How much room has to be there for `part_at`, however much of it is used.
+    /// Bounds the length of `room` for `part_at`, however much of it is used.
     ghost room_needed: { Self → ℕ };
 
-    /// How many there are.
+    /// Returns the number of bytes.
     fn len(&self) -> usize
         ensures { result ≡ length (bytes self.now) };
 
-    /// Copies those from a place on.
+    /// Copies the bytes from `at` on to `out`, as many as `out` has.
     fn copy_to(&self, at: usize, out: &mut [u8])
         requires { at + length out.old ≤ length (bytes self.now) }
         ensures { out.new ≡ slice_range (bytes self.now) at (at + length out.old) };
 
-    /// Those from a place on, as many as stand in one piece there. There may be none.
+    /// Returns the bytes from `at` on that stand in one piece there. There may be none.
     fn piece_at(&self, at: usize) -> &[u8]
         requires { at ≤ length (bytes self.now) }
         ensures long { length result.now ≡ piece_len self.now at }
         ensures within { at + length result.now ≤ length (bytes self.now) }
         ensures piece { result.now ≡ slice_range (bytes self.now) at (at + length result.now) };
 
-    /// So many from a place on, in one piece. Those that stand in several are copied to `room`.
+    /// Returns the `len` bytes from `at` on, in one piece. They are copied to `room` where they stand in several.
     fn part_at<'a>(&'a self, at: usize, len: usize, room: &'a mut [u8]) -> &'a [u8]
         requires within { at + len ≤ length (bytes self.now) }
         requires room { room_needed self.now ≤ length room.old }
@@ -64,17 +64,20 @@ impl Bytes for Slice<'_> {
     }
 }
 
-/// So many of other bytes, from a place on.
+/// The `len` bytes of other bytes from place `first` on.
 #[derive(Drop)]
 pub struct Part<'a, B: Bytes> {
+    /// The other bytes.
     pub of: &'a B,
+    /// The place of the first byte in them.
     pub first: usize,
+    /// The number of bytes.
     pub len: usize,
     ghost within: { first + len ≤ length (B.bytes of.now) },
 }
 
 impl<'a, B: Bytes> Part<'a, B> {
-    /// Those `len` bytes of other ones, which end in them.
+    /// Returns the `len` bytes of `of` from place `first` on.
     pub fn new(of: &'a B, first: usize, len: usize) -> Part<'a, B>
         requires { first + len ≤ length (B.bytes of.now) }
         ensures of { result.of.now ≡ of.now }

@@ -13,8 +13,8 @@ use std::marker::Model;
 use std::ops::Range;
 use tiff_dir::Level;
 
-/// The bytes of a rectangle of a level, row by row. Samples have the bytes of the tiles: those of 16 bits are in the file's
-/// order.
+/// The bytes of a rectangle of a level, row by row. Samples have the bytes of the tiles: those of 16 bits are in the
+/// file's byte order.
 #[derive(Drop)]
 pub struct Canvas {
     level: Level,
@@ -34,7 +34,7 @@ impl Model for Canvas {
     ghost invariant = { λ c. IsSmall c.level c.rect × (length c.bytes.items ≡ picture_size c.level c.rect) };
 }
 
-/// The numbers that two stretches have in common, each given by its first number and its length.
+/// Returns the numbers that two runs of numbers have in common. Each run is given by its first number and its length.
 fn common(a: usize, a_len: u32, b: usize, b_len: u32) -> Range<usize>
     requires { (a < 2 ^ 62) × (b < 2 ^ 62) }
     ensures first { result.start ≡ max a b }
@@ -44,8 +44,8 @@ fn common(a: usize, a_len: u32, b: usize, b_len: u32) -> Range<usize>
 }
 
 impl Canvas {
-    /// A canvas for a rectangle of the level, all bytes 0: the rectangle's samples, of one or two bytes each. The rectangle lies in
-    /// the level and has at most 4,194,304 samples. An `Err` comes where no memory was left.
+    /// Makes a canvas for a rectangle of the level. It has the bytes of the rectangle's samples, one or two for each,
+    /// and all are 0. The rectangle lies in the level and has at most 4,194,304 samples. Fails with `Memory` alone.
     pub fn new(alloc: Global, level: &Level, rect: Rectangle) -> Result<Canvas, Memory>
         requires { IsSmall level.now rect }
         ensures { IfOk result (λ c. c ≡ record { level = level.now; rectangle = rect; bytes = replicate (picture_size level.now rect) 0 }) }
@@ -59,7 +59,7 @@ impl Canvas {
         })
     }
 
-    /// Copies what of the tile of this number lies in the rectangle. `bytes` are the tile's, unpacked.
+    /// Copies the part of `tile` that lies in the rectangle. `bytes` are the tile's unpacked bytes.
     pub fn blit<B: Bytes>(&mut self, tile: u32, bytes: &B)
         requires tile { tile < tile_total (grid_of self.old.level) }
         requires size { length (B.bytes bytes.now) ≡ plain_size (layout_of self.old.level) }
@@ -103,14 +103,14 @@ impl Canvas {
         );
     }
 
-    /// The level whose tiles it takes.
+    /// Returns the level whose tiles it takes.
     pub fn level(&self) -> &Level
         ensures { result.now ≡ self.now.level }
     {
         &self.level
     }
 
-    /// The bytes as they stand.
+    /// Returns the bytes as they stand.
     pub fn into_data(self) -> Vec<u8>
         ensures { result.items ≡ self.bytes }
     {

@@ -1,4 +1,4 @@
-//! From a window to its tiles, and from their bytes to the samples of the window; the tiles that are kept unpacked.
+//! Finds the tiles of a window, and puts the window's samples together from their bytes. Keeps unpacked tiles.
 #![tactic(auto)]
 
 mod arrays;
@@ -25,7 +25,7 @@ pub use canvas::Canvas;
 pub use laws::{law_all_are_painted, law_tiles_cover};
 pub use plan::{Group, groups};
 pub use swap::swap_pairs;
-/// Why there are no groups: a tile of the window has the fault, or no memory was left.
+/// Why there are no groups: a tile of the window has a fault, or an allocation failed.
 pub use tiff_dir::WalkError as PlanError;
 pub use tile_cache::TileCache;
 pub use window_builder::WindowBuilder;

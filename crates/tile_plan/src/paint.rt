@@ -1,4 +1,4 @@
-//! A packed tile, unpacked and copied onto a canvas.
+//! A packed tile is unpacked and copied onto a canvas.
 ghost use Rattle.std.specs.Prelude.{◌≡◌, ◌<◌, ◌≤◌, true, ℕ, List, IfErr, OnOk, length};
 ghost use Rattle.tiff_dir.specs.Described.{grid_of, layout_of};
 ghost use Rattle.tiff_dir.specs.Level.{plain_size, tile_total};
@@ -12,8 +12,9 @@ use crate::tile_cache::TileCache;
 use crate::{Bytes, Canvas, Slice};
 use tiff_dir::{Compression, FileFault};
 
-/// Copies the tile that the packed bytes of a file stand for, which begin at `first`, onto the canvas. Where it isn't kept, its bytes are
-/// put in one piece, in `room` at need, and unpacked to `plain`, and it is kept.
+/// Copies a packed tile onto the canvas. Its packed bytes begin at `first` in the file. Where the tile isn't kept, they
+/// are put in one piece, in `room` if need be, and unpacked to `plain`. Then the tile is kept, unless there is no memory
+/// for it. Fails with the fault of its bytes.
 pub fn paint_packed<B: Bytes>(
     canvas: &mut Canvas,
     tile: u32,

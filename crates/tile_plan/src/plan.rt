@@ -1,4 +1,4 @@
-//! The groups of a window's tiles: those that stand one after the other in the file are read by one range.
+//! The groups of a window's tiles. Tiles that follow each other in the file without a gap are read by one range.
 ghost use Rattle.std.specs.Prelude.{◌≡◌, ℕ, ◌<◌, List, true, false, Some, IfOk, IfErr, OnOk, IsTrue, map, length};
 ghost use Rattle.tiff_dir.specs.declared.query.Query.{Query};
 ghost use Rattle.tiff_dir.specs.declared.fault.FileFault.{FileFault as Fault};
@@ -20,10 +20,12 @@ use std::alloc::Global;
 use tiff_dir::limits::MAX_TILE_BYTES;
 use tiff_dir::{Compression, FileFault, Level, Order, WalkError as PlanError, tile_of};
 
-/// Tiles that stand one after the other in the file, in ascending number, and the bytes that they have together.
+/// Tiles that follow each other in the file without a gap, and the bytes that they have together.
 #[derive(Debug, Drop, PartialEq, Eq)]
 pub struct Group {
+    /// The numbers of the tiles, ascending.
     pub tiles: Vec<u32>,
+    /// The bytes of all tiles.
     pub span: Span,
 }
 
@@ -36,7 +38,7 @@ impl Group {
         Ok(Group { tiles, span })
     }
 
-    /// Whether the span begins where the group ends, and the group with it isn't too long.
+    /// Returns whether `span` begins where the group ends, and the group with it has at most 1,048,576 bytes.
     fn joins(&self, span: Span) -> bool
         ensures { result ≡ joins (extent_of_span self.now.span) (extent_of_span span) }
     {
@@ -76,7 +78,7 @@ fn add_tile(
     }
 }
 
-/// Whether a tile of the level may have so many bytes.
+/// Returns whether a tile of the level may have `len` bytes.
 fn is_right_size(level: &Level, len: u64) -> bool
     ensures right { IsTrue result → IsWrongSize level.now len → ⊥ }
     ensures wrong { result ≡ false → IsWrongSize level.now len }
@@ -88,7 +90,7 @@ fn is_right_size(level: &Level, len: u64) -> bool
     0 < len && len <= MAX_TILE_BYTES && fits
 }
 
-/// Where a tile stands in a file of `file_length` bytes.
+/// Returns the bytes of `tile` in a file of `file_length` bytes. Fails with `TileSize` or `PastEnd`, as `groups` does.
 fn tile_span(
     order: Order,
     level: &Level,
@@ -123,11 +125,13 @@ fn tile_span(
     })
 }
 
-/// The groups of the tiles of a level that have a pixel of the rectangle, for a file of `file_length` bytes: by the bytes of the
-/// level's arrays, in the file's order. A tile that begins where the one before ends joins its group, which has at most 1,048,576
-/// bytes. Tile by tile in ascending number, the fault is TileSize where the byte count is 0, above 1,048,576 or not the plain
-/// size of a plain tile, and PastEnd where the tile ends past the file; Memory comes where none was left. `rect` lies in the
-/// level, and the arrays have the lengths of their places.
+/// Returns the groups of the tiles of `level` that have a pixel of `rect`. A tile that begins where the one before ends
+/// joins its group. A group has at most 1,048,576 bytes. `offsets` and `counts` are the bytes of the level's arrays, in
+/// byte order `order`. They have the lengths that the level says, and `rect` lies in the level.
+///
+/// Fails with `Memory`, or with the fault of the first tile that has one, in ascending number:
+/// - `TileSize`: its byte count is 0, above 1,048,576, or not the plain size of a plain tile.
+/// - `PastEnd`: it ends after a file of `file_length` bytes.
 pub fn groups(
     alloc: Global,
     order: Order,

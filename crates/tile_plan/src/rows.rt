@@ -4,15 +4,18 @@ ghost use Rattle.tile_plan.specs.Rows.{AreIn, AreCopied, from_row};
 
 use crate::Bytes;
 
-/// Rows of bytes: where the first one begins, and how far each is from the one before.
+/// Rows of bytes at equal distances.
 #[derive(Clone, Copy)]
 pub struct Rows {
+    /// The place of the first byte of the first row.
     pub first: usize,
+    /// The number of bytes from the beginning of a row to that of the next one.
     pub step: usize,
 }
 
 impl Rows {
-    /// The rows from a pixel on, in pictures of `columns` columns.
+    /// Returns the rows that begin at column `left` and row `top` of a picture of `columns` columns. A pixel has
+    /// `pixel` bytes.
     pub fn from_pixel(columns: usize, left: usize, top: usize, pixel: usize) -> Rows
         requires column { left < columns }
         requires some { 0 < pixel }
@@ -25,7 +28,7 @@ impl Rows {
         }
     }
 
-    /// Those from a row on.
+    /// Returns the rows from number `row` on.
     fn from_row(self, row: usize) -> Rows
         requires { self.first + row * self.step < 2 ^ 64 }
         ensures { result ≡ from_row self row }
@@ -37,7 +40,8 @@ impl Rows {
     }
 }
 
-/// How many rows of `len` bytes, each so far from the one before, lie in the first so many bytes.
+/// Returns how many rows of `len` bytes lie in the first `size` bytes. Each row begins `step` bytes after the one
+/// before.
 fn rows_in(size: usize, len: usize, step: usize) -> usize
     requires some { 0 < step }
     requires apart { len ≤ step }
@@ -49,7 +53,7 @@ fn rows_in(size: usize, len: usize, step: usize) -> usize
     ((size - len) / step).saturating_add(1)
 }
 
-/// Copies `count` rows of `len` bytes out of a slice, which don't overlap where they are written.
+/// Copies `count` rows of `len` bytes out of a slice. The rows don't overlap where they are written.
 fn copy_slice_rows(count: usize, len: usize, from: &[u8], read: Rows, to: &mut [u8], write: Rows)
     requires apart { len ≤ write.step }
     requires read { AreIn read count len (length from.now) }
@@ -63,7 +67,7 @@ fn copy_slice_rows(count: usize, len: usize, from: &[u8], read: Rows, to: &mut [
     }
 }
 
-/// Copies the first one of rows.
+/// Copies the first of the rows.
 fn copy_row<B: Bytes>(len: usize, from: &B, read: Rows, to: &mut [u8], write: Rows)
     requires apart { len ≤ write.step }
     requires read { read.first + len ≤ length (B.bytes from.now) }
@@ -73,7 +77,8 @@ fn copy_row<B: Bytes>(len: usize, from: &B, read: Rows, to: &mut [u8], write: Ro
     from.copy_to(read.first, &mut to[write.first..write.first + len]);
 }
 
-/// Copies the first ones of `count` rows, as many as stand in one piece, or one, and says how many.
+/// Copies the first of `count` rows, and returns how many it copied. These are the rows that stand in one piece, or
+/// else one row.
 fn copy_some<B: Bytes>(
     count: usize,
     len: usize,
@@ -105,7 +110,7 @@ fn copy_some<B: Bytes>(
     whole
 }
 
-/// Copies `count` rows of `len` bytes, which don't overlap where they are written.
+/// Copies `count` rows of `len` bytes. The rows don't overlap where they are written.
 pub fn copy_rows<B: Bytes>(
     count: usize,
     len: usize,

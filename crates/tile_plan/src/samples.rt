@@ -1,4 +1,4 @@
-//! The bytes of samples.
+//! The byte order of samples.
 ghost use Rattle.std.specs.Prelude.{◌≡◌, ◌+◌, ◌*◌, ◌≤◌, ℕ, IsTrue, length};
 ghost use Rattle.tiff_dir.specs.Number.{number_in};
 ghost use Rattle.tiff_dir.specs.Profile.{is_depth, sample_bytes};
@@ -7,7 +7,8 @@ ghost use Rattle.tile_plan.specs.Samples.{sample_at};
 use crate::swap_pairs;
 use tiff_dir::Order;
 
-/// Turns the bytes of samples of 8 or 16 bits so that each has its most significant byte first.
+/// Puts the most significant byte of each sample first. Samples have 8 or 16 bits, and `order` is the byte order of the
+/// file.
 pub fn big_first(order: Order, bits: u16, bytes: &mut [u8])
     requires { IsTrue (is_depth bits) }
     ensures len { length bytes.new ≡ length bytes.old }

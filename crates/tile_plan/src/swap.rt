@@ -4,10 +4,10 @@ ghost use Rattle.tile_plan.specs.Pairs.{exchanged};
 
 use std::simd::prelude::*;
 
-/// How many bytes are exchanged at once.
+/// The number of bytes that are exchanged at once.
 const LANES: usize = 16;
 
-/// Exchanges the pairs of 16 bytes, as lanes of one vector.
+/// Exchanges the two bytes of each of eight pairs, as lanes of one vector.
 #[inline(always)]
 fn swap_lanes(bytes: &mut [u8])
     requires { length bytes.old ≡ 16 }
@@ -18,7 +18,7 @@ fn swap_lanes(bytes: &mut [u8])
     swapped.copy_to_slice(bytes);
 }
 
-/// Exchanges one pair.
+/// Exchanges the two bytes of one pair.
 #[inline(always)]
 fn swap_pair(pair: &mut [u8])
     requires { length pair.old ≡ 2 }
@@ -29,7 +29,7 @@ fn swap_pair(pair: &mut [u8])
     pair[1] = first;
 }
 
-/// Exchanges the pairs one after another.
+/// Exchanges the two bytes of each pair, one pair after another.
 fn swap_rest(bytes: &mut [u8])
     ensures { bytes.new ≡ exchanged bytes.old }
 {
@@ -40,7 +40,7 @@ fn swap_rest(bytes: &mut [u8])
     }
 }
 
-/// Exchanges bytes 2i and 2i + 1: samples of 16 bits in the other order. A last byte without a pair stays.
+/// Exchanges bytes 2i and 2i + 1: samples of 16 bits get the other byte order. A last byte without a pair stays.
 pub fn swap_pairs(bytes: &mut [u8])
     ensures { bytes.new ≡ exchanged bytes.old }
 {

@@ -1,4 +1,4 @@
-//! Tiles that were unpacked, kept from one window to the next.
+//! Unpacked tiles, kept from one window to the next.
 ghost use Rattle.std.specs.Prelude.{◌≡◌, ◌-◌, ◌*◌, ◌/◌, ◌<◌, ◌≤◌, ℕ, List, ◌∷◌, IfNone, IfOk, IfSome, IsSome, OnOk, slice_get, Some, length, nat_eq, take};
 ghost use Rattle.std.specs.List.{All};
 ghost use Rattle.std.specs.Map.{remove_entry};
@@ -15,12 +15,16 @@ use std::mem;
 use std::num::NonZeroUsize;
 use tiff_dir::Codec;
 
-/// What `len` packed bytes stand for by a codec, in rows of `row` bytes each.
+/// An unpacked tile.
 #[derive(Drop)]
 pub struct Tile {
+    /// The codec that packed it.
     pub codec: Codec,
+    /// The number of its packed bytes.
     pub len: usize,
+    /// The number of unpacked bytes in a row.
     pub row: usize,
+    /// Its unpacked bytes.
     pub plain: Vec<u8>,
 }
 
@@ -29,7 +33,8 @@ impl Tile {
     ghost use Rattle.std.specs.Option.{option_copied};
     ghost use Rattle.tile_plan.specs.TileCache.{plain_of};
 
-    /// Returns what it stands for by the codec, where its packed bytes are so many, and it has `size` bytes in rows of `row`.
+    /// Returns the unpacked bytes, where they were packed by `codec` into `len` bytes. They have to be `size` bytes in
+    /// rows of `row` bytes.
     fn plain_of(&self, codec: Codec, len: usize, row: usize, size: usize) -> Option<&[u8]>
         ensures { option_copied result ≡ plain_of codec len row size self.now }
     {
@@ -40,7 +45,8 @@ impl Tile {
     }
 }
 
-/// Room for a tile of so many bytes: that of the tile that was used longest ago, where no more may be kept, and else new.
+/// Returns a buffer of `size` bytes. Where no more tiles may be kept, it takes out the one that was used longest ago,
+/// and reuses its buffer. Else the buffer is new.
 fn room_for(tiles: &mut LruCache<u32, Tile>, alloc: Global, size: usize) -> Result<Vec<u8>, Memory>
     ensures size { IfOk result (λ room. length room.items ≡ size) }
     ensures tiles { tiles.new.entries ≡ take (tiles.old.cap - 1) tiles.old.entries }
@@ -58,7 +64,7 @@ fn room_for(tiles: &mut LruCache<u32, Tile>, alloc: Global, size: usize) -> Resu
     Ok(vec![in alloc; 0u8; size]?)
 }
 
-/// Returns how many tiles of `size` bytes have `most` bytes together at most, where one has.
+/// Returns how many tiles of `size` bytes have at most `most` bytes together, or `None` where not one has.
 fn count_in(most: usize, size: usize) -> Option<NonZeroUsize>
     ensures count { IfSome result (λ count. non_zero_usize_get count ≡ most / size) }
     ensures few { IfSome result (λ count. non_zero_usize_get count * size ≤ most) }
@@ -70,8 +76,8 @@ fn count_in(most: usize, size: usize) -> Option<NonZeroUsize>
     NonZeroUsize::new(most / size)
 }
 
-/// Has a store for so many tiles of `size` bytes, in the place of one for those of another size, which `of` tells.
-/// After a refusal, what was there stays.
+/// Makes a store for `count` tiles of `size` bytes instead of one for tiles of another size, `of`. Where a store for
+/// this size is there, it stays. After `Memory` the store is as it was.
 fn fit(
     tiles: &mut Option<LruCache<u32, Tile>>,
     of: &mut usize,
@@ -94,7 +100,7 @@ fn fit(
     Ok(())
 }
 
-/// Puts a tile in front of others. Its room is kept with it, and other room of that size stands in its place.
+/// Puts a tile in front of the others. Takes the buffer of `plain`, and leaves another one of the same length there.
 fn put(
     tiles: &mut LruCache<u32, Tile>,
     alloc: Global,
@@ -125,8 +131,8 @@ fn put(
     Ok(())
 }
 
-/// Tiles of one file that were unpacked, by where their packed bytes begin in it: those that were used last, as many as have room. Beside
-/// them it keeps the room for one tile of the window before, for the next window.
+/// Unpacked tiles of one file, by where their packed bytes begin in it. As many as have room are kept, those that were
+/// used last. From one window to the next it also keeps a buffer for one tile.
 pub struct TileCache {
     alloc: Global,
     most: usize,
@@ -135,7 +141,8 @@ pub struct TileCache {
     room: Vec<u8>,
 }
 
-// Written out, it is one call wherever these are let go; derived, each such place would be proved field by field.
+// Written out, the drop is one call in each place where this is dropped. Derived, each place would be proved field by
+// field.
 impl Drop for TileCache {
     fn drop(self) {
         let TileCache {
@@ -168,7 +175,7 @@ impl TileCache {
     ghost use Rattle.tiff_dir.specs.Window.{PacksBy};
     ghost use Rattle.tile_plan.specs.TileCache.{size_of_tiles, kept_with, plain_at, AreTilesOf};
 
-    /// None yet, of at most so many bytes in all. It takes no memory.
+    /// Makes a cache without tiles, for at most `most` bytes of them. It allocates nothing.
     pub fn new(alloc: Global, most: usize) -> TileCache
         ensures none { result ≡ record { most = most; tiles = [] } }
         ensures of { (f : List ℕ) → AreTilesOf f result }
@@ -182,7 +189,7 @@ impl TileCache {
         }
     }
 
-    /// The tiles that are kept have no more bytes together than they may. It does nothing: its contract is the law.
+    /// Does nothing: its contract says that the tiles that are kept have together no more bytes than they may.
     pub fn no_more_is_kept(&self)
         ensures { size_of_tiles self.now.tiles ≤ self.now.most }
     {
@@ -192,7 +199,8 @@ impl TileCache {
         }
     }
 
-    /// Room for a tile of so many bytes: that of the window before, where it is as long, and else new.
+    /// Returns a buffer of `size` bytes for a tile: that of the window before, where it is as long, or else a new one.
+    /// Fails with `Memory` alone.
     pub fn take_room(&mut self, size: usize) -> Result<Vec<u8>, Memory>
         ensures size { IfOk result (λ room. length room.items ≡ size) }
         ensures same { self.new ≡ self.old }
@@ -205,14 +213,14 @@ impl TileCache {
         Ok(vec![in self.alloc; 0u8; size]?)
     }
 
-    /// Has this room for the next window.
+    /// Keeps the buffer `room` for the next window.
     pub fn give_room(&mut self, room: Vec<u8>)
         ensures { self.new ≡ self.old }
     {
         self.room = room;
     }
 
-    /// Notes that the tile at this place is used: where it is kept, it goes to the front.
+    /// Notes that the tile whose packed bytes begin at `first` is used. Where it is kept, it goes to the front.
     pub fn promote(&mut self, first: u32)
         ensures tiles { self.new.tiles ≡ promoted (nat_eq first) self.old.tiles }
         ensures of { (f : List ℕ) → AreTilesOf f self.old → AreTilesOf f self.new }
@@ -223,8 +231,8 @@ impl TileCache {
         }
     }
 
-    /// Returns what the packed bytes of the tile at this place stand for by the codec, where it is kept. They are so many, and stand for
-    /// `size` bytes in rows of `row`.
+    /// Returns the unpacked bytes of the tile whose `len` packed bytes begin at `first`, or `None` where it isn't kept.
+    /// They are `size` bytes in rows of `row` bytes, which `codec` packed.
     pub fn find(
         &self,
         codec: Codec,
@@ -243,12 +251,15 @@ impl TileCache {
         tile.plain_of(codec, len, row, size)
     }
 
-    /// Keeps what the packed bytes of the tile at this place stand for by the codec, which are so many, in front of the others. It stands
-    /// in the place of the one that was used longest ago, where no more may be kept. Its room is taken, and other room of that size stands
-    /// in its place. Tiles of another size are let go. Where not one of its size may be kept, nothing happens.
+    /// Keeps the unpacked bytes `plain` of the tile whose `len` packed bytes begin at `first`, in front of the others.
+    /// They stand in rows of `row` bytes, which `codec` packed. Takes the buffer of `plain`, and leaves another one of
+    /// the same length there.
+    ///
+    /// Where no more may be kept, the tile that was used longest ago is dropped. Tiles of another size are dropped,
+    /// too. Where not one tile of this size may be kept, nothing happens.
     ///
     /// # Errors
-    /// `Memory`, and the tile isn't kept.
+    /// `Memory`: the tile isn't kept.
     pub fn keep(
         &mut self,
         codec: Codec,

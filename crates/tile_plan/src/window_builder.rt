@@ -19,8 +19,8 @@ use std::alloc::Global;
 use std::marker::Model;
 use tiff_dir::{Compression, FileFault};
 
-/// Copies packed tiles that stand one after the other onto the canvas, by their bytes. `plain` is room for a tile, and `room` for what
-/// stands in several pieces.
+/// Copies packed tiles that follow each other without a gap onto the canvas, from their bytes. `plain` has room for a
+/// tile, and `room` for what stands in several pieces. Fails with the fault of a tile's bytes.
 fn unpack_parts<B: Bytes>(
     canvas: &mut Canvas,
     arrays: &Arrays,
@@ -69,7 +69,7 @@ fn unpack_parts<B: Bytes>(
     Ok(())
 }
 
-/// Copies plain tiles that stand one after the other onto the canvas, out of their bytes.
+/// Copies plain tiles that follow each other without a gap onto the canvas, from their bytes.
 fn paint_parts<B: Bytes>(canvas: &mut Canvas, arrays: &Arrays, tiles: &[u32], bytes: &B)
     requires level { canvas.old.level ≡ arrays.now.level }
     requires plain { arrays.now.level.compression ≡ Plain }
@@ -100,7 +100,8 @@ pub struct WindowBuilder {
     plain: Vec<u8>,
 }
 
-// Written out, it is one call wherever a builder is let go; derived, each such place would be proved field by field.
+// Written out, the drop is one call in each place where a builder is dropped. Derived, each place would be proved field
+// by field.
 impl Drop for WindowBuilder {
     fn drop(self) {
         let WindowBuilder {
@@ -140,9 +141,10 @@ impl WindowBuilder {
     ghost use Rattle.tile_plan.specs.WindowBuilder.{HasPlan, IsPlan, IsUnderway, IsGroupLen, IsWantedGroup};
     ghost use Rattle.tile_plan.specs.TileCache.{AreTilesOf};
 
-    /// The window of a rectangle, in a file of `file_length` bytes: nothing of it is there yet. The rectangle lies in the arrays'
-    /// level and is small. Where a tile of it has a wrong byte count or ends past the file, that fault is told. What is kept stays, but
-    /// for room for a tile.
+    /// Plans the window of `rect` in a file of `file_length` bytes. No group of it is there yet. The rectangle lies in
+    /// the level of `arrays`, and has at most 4,194,304 samples. Unpacked tiles stay in the cache, which lends a buffer
+    /// for one tile. Fails with the fault of a tile whose byte count is wrong or which ends after the file, or with
+    /// `Memory`.
     pub fn new(
         alloc: Global,
         arrays: &Arrays,
@@ -185,14 +187,14 @@ impl WindowBuilder {
         })
     }
 
-    /// The rectangle whose window it is.
+    /// Returns the rectangle whose window it is.
     pub fn rectangle(&self) -> Rectangle
         ensures { result ≡ self.now.picture.rectangle }
     {
         self.rect
     }
 
-    /// The bytes of the next group, None where all were given.
+    /// Returns the bytes of the next group, or `None` where all were given.
     pub fn need(&self) -> Option<Span>
         ensures { MatchOption result (self.now.given ≡ length self.now.groups)
             (λ span. IsSomeAnd (slice_get self.now.groups self.now.given) (λ g. g.span ≡ span)) }
@@ -201,7 +203,7 @@ impl WindowBuilder {
         Some(group.span)
     }
 
-    /// The bytes of the group after the next one and `index` more.
+    /// Returns the bytes of the group after the next one and `index` more, or `None`.
     pub fn upcoming(&self, index: u32) -> Option<Span>
         ensures { let group = slice_get self.now.groups (self.now.given + 1 + index) in
             MatchOption result (group ≡ None) (λ span. IsSomeAnd group (λ g. g.span ≡ span)) }
@@ -211,7 +213,7 @@ impl WindowBuilder {
         Some(group.span)
     }
 
-    /// Takes the bytes of the next group. After a fault the work is of no use.
+    /// Takes the bytes of the next group. Fails with the fault that they have. Then the builder is of no use.
     pub fn give(
         &mut self,
         arrays: &Arrays,
@@ -239,8 +241,8 @@ impl WindowBuilder {
         }
     }
 
-    /// Takes the next group of packed tiles, out of its bytes. `room` is for what stands in several pieces. After a fault the work is of
-    /// no use.
+    /// Takes the next group, of packed tiles, from its bytes. `room` has room for what stands in several pieces. Fails
+    /// with the fault that they have. Then the builder is of no use.
     pub fn unpack<B: Bytes>(
         &mut self,
         arrays: &Arrays,
@@ -278,7 +280,7 @@ impl WindowBuilder {
         Ok(())
     }
 
-    /// Takes the next group of plain tiles, out of its bytes.
+    /// Takes the next group, of plain tiles, from its bytes.
     pub fn paint<B: Bytes>(&mut self, arrays: &Arrays, bytes: &B)
         requires plan { HasPlan arrays.now self.old }
         requires plain { arrays.now.level.compression ≡ Plain }
@@ -295,8 +297,8 @@ impl WindowBuilder {
         self.given += 1;
     }
 
-    /// The bytes of the window's samples, row by row, each sample with its most significant byte first, when all groups were given. What is
-    /// kept stays, and room for a tile is given back to it.
+    /// Returns the bytes of the window's samples after all groups were given. They stand row by row, each sample with
+    /// its most significant byte first. Unpacked tiles stay in the cache, which gets back the buffer for one tile.
     pub fn into_pixels(self, arrays: &Arrays, tile_cache: &mut TileCache) -> Vec<u8>
         ensures same { tile_cache.new ≡ tile_cache.old }
         ensures size { (f : List ℕ) (q : Query) → IsUnderway f q arrays.now self → length result.items ≡ length self.picture.bytes }

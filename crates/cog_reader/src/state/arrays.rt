@@ -1,4 +1,4 @@
-//! The tile arrays of a window's level are read.
+//! Reads the tile arrays of a window's level.
 ghost use Rattle.std.specs.Prelude.{◌≡◌, ℕ, List, IfOk, IsSomeAnd, OnErr, OnOk, length, slice_get};
 ghost use Rattle.tiff_dir.specs.declared.query.Query.{Query as Asks};
 ghost use Rattle.tiff_dir.specs.Walk.{levels_of, HasEnded};
@@ -18,7 +18,7 @@ use std::alloc::Global;
 use tiff_dir::{FileFault, Walk, law_levels_are_described, law_what_comes};
 use tile_plan::{PlanError, Rectangle, TileCache, WindowBuilder};
 
-/// What comes next: an array, or, where both are kept, the window's tiles.
+/// Returns what comes next: an array, or, where both are kept, the window's tiles. Fails with `Memory` alone.
 pub fn next(
     file: &FileView<'_>,
     tile_cache: &mut TileCache,
@@ -53,7 +53,7 @@ pub fn next(
     }
 }
 
-/// The bytes of the next array.
+/// Returns the byte range of the next array.
 pub fn wanted(file: &FileView<'_>, rect: Rectangle) -> Option<Span>
     requires ended { HasEnded file.now.walk.now }
     requires small { IsSomeAnd (slice_get (levels_of file.now.walk.now) rect.level) (λ l. IsSmall l rect) }
@@ -68,7 +68,7 @@ pub fn wanted(file: &FileView<'_>, rect: Rectangle) -> Option<Span>
     }
 }
 
-/// The bytes of the array after the next one.
+/// Returns the byte range of the array after the next one.
 pub fn upcoming(file: &FileView<'_>, rect: Rectangle) -> Option<Span>
     requires ended { HasEnded file.now.walk.now }
     requires small { IsSomeAnd (slice_get (levels_of file.now.walk.now) rect.level) (λ l. IsSmall l rect) }
@@ -81,7 +81,7 @@ pub fn upcoming(file: &FileView<'_>, rect: Rectangle) -> Option<Span>
     span_of(place, file.file_length)
 }
 
-/// Keeps an array of the rectangle's level.
+/// Keeps an array of the rectangle's level. Fails with `Memory` alone, and then changes nothing.
 pub fn accept(
     alloc: Global,
     walk: &Walk,

@@ -1,4 +1,4 @@
-//! The directories are read.
+//! Reads the directories.
 ghost use Rattle.std.specs.Prelude.{◌≡◌, ◌≢◌, IfOk, OnErr, length};
 ghost use Rattle.tiff_dir.specs.declared.query.Query.TheVariants as queries;
 ghost use Rattle.tiff_dir.specs.Walk as walks;
@@ -16,7 +16,8 @@ use extents::{Memory, Span};
 use tiff_dir::{FileFault, Query, Walk, WalkError, law_levels_are_described, law_what_comes};
 use tile_plan::{TileCache, rect};
 
-/// What comes next: a range of the directories, or, where all are read, what the query needs of its own.
+/// Returns what comes next: a range of the directories, or, where all are read, what the query needs of its own. Fails
+/// with `Memory` alone.
 pub fn next(
     file: &FileView<'_>,
     tile_cache: &mut TileCache,
@@ -36,7 +37,7 @@ pub fn next(
     }
 }
 
-/// The next range of the directories.
+/// Returns the next byte range of the directories.
 pub fn wanted(file: &FileView<'_>) -> Option<Span>
     ensures { (k : Keeps) → ComesNext file.now.file_length file.now.walk.now k state.Directories result }
 {
@@ -46,7 +47,7 @@ pub fn wanted(file: &FileView<'_>) -> Option<Span>
     }
 }
 
-/// The directories were read, and Info is asked.
+/// Returns what comes first for Info, after all directories were read.
 fn begin_info(file: &FileView<'_>) -> Result<ReaderStep, Memory>
     requires { HasEnded file.now.walk.now }
     ensures { IfOk result (λ step. (k : Keeps) → IsStep file.now.file_length file.now.walk.now k queries.Info state.Directories step) }
@@ -63,7 +64,7 @@ fn begin_info(file: &FileView<'_>) -> Result<ReaderStep, Memory>
     }
 }
 
-/// The directories were read, and a window is asked.
+/// Returns what comes first for a window, after all directories were read.
 fn begin_window(
     file: &FileView<'_>,
     tile_cache: &mut TileCache,
@@ -83,7 +84,8 @@ fn begin_window(
     }
 }
 
-/// Gives the walk a range of the directories, or tells the fault that it has.
+/// Gives the walk a range of the directories, and returns the fault that it has, if any. Fails with `Memory` alone, and
+/// then changes nothing.
 pub fn accept(walk: &mut Walk, bytes: &[u8]) -> Result<Option<FileFault>, Memory>
     requires { walks.IsWanted walk.old (length bytes.now) }
     ensures directories { IfOk result (AcceptsDirectories bytes.now walk.old walk.new) }

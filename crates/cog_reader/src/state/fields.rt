@@ -1,4 +1,4 @@
-//! The geo fields are read.
+//! Reads the geo fields.
 ghost use Rattle.std.specs.Prelude.{◌≡◌, IfErr, IfOk};
 ghost use Rattle.tiff_dir.specs.declared.query.Query.{Query as Asks};
 ghost use Rattle.tiff_dir.specs.Walk.{HasEnded};
@@ -15,8 +15,8 @@ use extents::Span;
 use geokeys::GeoError;
 use tiff_dir::FileFault;
 
-/// What comes next: a geo field, or, where all were given, what the file says of its place. A refusal of memory gives the
-/// fields back.
+/// Returns what comes next: a geo field, or, where all were given, what Info says. Fails where an allocation fails, and
+/// returns the fields then.
 pub fn next(file: &FileView<'_>, fields: GeoFields) -> Result<ReaderStep, GeoFields>
     requires { HasEnded file.now.walk.now }
     ensures step { IfOk result (λ step. (k : Keeps) (q : Asks) → IsStep file.now.file_length file.now.walk.now k q
@@ -36,7 +36,7 @@ pub fn next(file: &FileView<'_>, fields: GeoFields) -> Result<ReaderStep, GeoFie
     }
 }
 
-/// The bytes of the next field.
+/// Returns the byte range of the next field.
 pub fn wanted(file_length: u64, fields: &GeoFields) -> Option<Span>
     ensures { (w : WalkState) (k : Keeps) → ComesNext file_length w k (state.GeoFields fields.now) result }
 {
@@ -44,7 +44,7 @@ pub fn wanted(file_length: u64, fields: &GeoFields) -> Option<Span>
     span_of(place, file_length)
 }
 
-/// The bytes of the field after the next one and `index` more.
+/// Returns the byte range of the field after the next one and `index` more.
 pub fn upcoming(file_length: u64, fields: &GeoFields, index: u32) -> Option<Span>
     ensures { (w : WalkState) (k : Keeps) → ComesLater file_length w k (state.GeoFields fields.now) index result }
 {

@@ -1,4 +1,4 @@
-//! The groups of a window's tiles are read.
+//! Reads the groups of a window's tiles.
 ghost use Rattle.std.specs.Prelude.{◌≡◌, ◌≤◌, true, ℕ, List, length};
 ghost use Rattle.tiff_dir.specs.declared.level.Compression.TheVariants.{Plain};
 ghost use Rattle.tiff_dir.specs.declared.query.Query.{Query as Asks};
@@ -23,7 +23,8 @@ use extents::Span;
 use tiff_dir::FileFault;
 use tile_plan::{Arrays, Bytes, Rectangle, TileCache, WindowBuilder, law_all_are_painted};
 
-/// The window, when all groups were given. What is kept stays, and room for a tile is given back to it.
+/// Makes the window after all groups were given. The tiles that are kept stay, and the cache gets back the room for a
+/// tile.
 fn into_window(arrays: &Arrays, tile_cache: &mut TileCache, builder: WindowBuilder) -> Window
     ensures same { tile_cache.new ≡ tile_cache.old }
     // Of a file whose directories are without fault: no other fault stands.
@@ -41,7 +42,7 @@ fn into_window(arrays: &Arrays, tile_cache: &mut TileCache, builder: WindowBuild
     }
 }
 
-/// What comes next: a group, or, where all were given, the window.
+/// Returns what comes next: a group, or, where all were given, the window.
 pub fn next(arrays: &Arrays, tile_cache: &mut TileCache, builder: WindowBuilder) -> ReaderStep
     ensures same { tile_cache.new ≡ tile_cache.old }
     ensures step { (file_length n : ℕ) (w : WalkState) (q : Asks) → HasEnded w → IsPlan file_length arrays.now builder
@@ -53,7 +54,7 @@ pub fn next(arrays: &Arrays, tile_cache: &mut TileCache, builder: WindowBuilder)
     }
 }
 
-/// The bytes of the next group.
+/// Returns the byte range of the next group.
 pub fn wanted(builder: &WindowBuilder) -> Option<Span>
     ensures { (file_length : ℕ) (w : WalkState) (k : Keeps) → HasBoth k (λ a. IsPlan file_length a builder.now)
         → ComesNext file_length w k (state.Tiles builder.now) result }
@@ -61,7 +62,7 @@ pub fn wanted(builder: &WindowBuilder) -> Option<Span>
     builder.need()
 }
 
-/// The bytes of the group after the next one and `index` more.
+/// Returns the byte range of the group after the next one and `index` more.
 pub fn upcoming(builder: &WindowBuilder, index: u32) -> Option<Span>
     ensures { (file_length : ℕ) (w : WalkState) (k : Keeps) → HasBoth k (λ a. IsPlan file_length a builder.now)
         → ComesLater file_length w k (state.Tiles builder.now) index result }
@@ -69,7 +70,7 @@ pub fn upcoming(builder: &WindowBuilder, index: u32) -> Option<Span>
     builder.upcoming(index)
 }
 
-/// Gives the window a group, or tells the fault that it has.
+/// Gives the window a group, and returns the fault that it has, if any.
 pub fn accept(
     kept: &KeptArrays,
     builder: &mut WindowBuilder,
@@ -101,7 +102,7 @@ pub fn paint<B: Bytes>(kept: &KeptArrays, builder: &mut WindowBuilder, bytes: &B
     builder.paint(kept.both(), bytes);
 }
 
-/// Gives the window a group of packed tiles, or tells the fault that it has.
+/// Gives the window a group of packed tiles, and returns the fault that it has, if any.
 pub fn unpack<B: Bytes>(
     kept: &KeptArrays,
     builder: &mut WindowBuilder,
