@@ -1,4 +1,4 @@
-//! Arguments that the commands have alike.
+//! Arguments that several commands share.
 ghost use Rattle.std.specs.Prelude.{◌≡◌, ◌++◌, ◌∷◌, [], false, OnOk};
 ghost use Rattle.clap.specs.Words.{rule_of};
 ghost use Rattle.command_lines.specs.Rules.{AddsRule};
@@ -7,7 +7,7 @@ ghost use Rattle.command_lines.specs.ServeLine.{choice, flag};
 use clap::{Arg, ArgAction};
 use std::alloc::{AllocError, Global};
 
-/// An option with one value, which may be left out.
+/// Makes an option with one value, which may be left out.
 pub(crate) fn choice<'a>(alloc: Global, name: &'a str, value: &'a str, help: &'a str) -> Arg<'a>
     ensures rule { rule_of result ≡ choice name.entry.now }
     ensures local { result.global ≡ false }
@@ -19,7 +19,7 @@ pub(crate) fn choice<'a>(alloc: Global, name: &'a str, value: &'a str, help: &'a
         .action(ArgAction::Set)
 }
 
-/// An option without a value.
+/// Makes an option without a value.
 pub(crate) fn flag<'a>(alloc: Global, name: &'a str, help: &'a str) -> Arg<'a>
     ensures rule { rule_of result ≡ flag name.entry.now }
     ensures local { result.global ≡ false }

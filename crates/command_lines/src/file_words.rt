@@ -1,4 +1,4 @@
-//! How the words of `cogread` name a file: by a server and a name, or by one word in their place.
+//! How the words of `cogread` name a file: by a server and a name, or by one word instead of both.
 ghost use Rattle.std.specs.Prelude.{◌≡◌, ◌+◌, ◌++◌, ◌∷◌, ◌<◌, [], if◌then◌else◌, IfOk, OnOk, codes, drop, eqb, length, map, take};
 ghost use Rattle.std.specs.List.{starts_with};
 ghost use Rattle.command_lines.specs.FileWord.{IsFileWord, expected_after, is_command, is_place, is_spaced_option, places, single_word, words_needed};
@@ -9,25 +9,25 @@ use crate::urls::is_url;
 use std::alloc::{AllocError, Global};
 use std::convert::AsStr;
 
-/// What the next word of a line is expected to be.
+/// Says what the next word of a line is expected to be.
 #[derive(Clone, Copy)]
 enum Expected {
-    /// An option, or a word that stands for itself.
+    /// An option or a positional argument.
     Any,
     /// The value of the option before it.
     Value,
-    /// A word that stands for itself, since `--` stood before it.
+    /// A positional argument, since `--` stood before it.
     Place,
 }
 
-/// How a line of `cogread` names its file. Words are told by their index in the line.
+/// Says how a line of `cogread` names its file. A word is given by its index in the line.
 #[derive(Clone, Copy, Debug, PartialEq, Eq)]
 pub enum FileWord {
-    /// By a server and a name, as the command has them; or the line has too few words, and none that may stand for both.
+    /// By a server and a name, as the command has them. Or words are missing, and none of them may stand for both.
     ServerAndName,
-    /// A URL is the first word behind the program's own name, in the place of `describe SERVER NAME`.
+    /// By a URL: it is the first word after the program's own name, instead of `describe SERVER NAME`.
     Alone(usize),
-    /// Words are missing, and this one stands where the server does: it may stand for a server and a name.
+    /// By one word where the server is expected, since words are missing. It may stand for a server and a name.
     Single(usize),
 }
 
@@ -50,7 +50,7 @@ fn begins_with_dash(word: &str) -> bool
     word.starts_with("-")
 }
 
-/// Returns whether a word stands for itself, where this is expected: it is no option, and no value of one.
+/// Returns whether a word is a positional argument where `expected` says what it may be.
 fn is_place(expected: Expected, word: &str) -> bool
     ensures { result ≡ is_place expected word.now }
 {
@@ -61,7 +61,7 @@ fn is_place(expected: Expected, word: &str) -> bool
     }
 }
 
-/// Returns what is expected after a word where this was expected.
+/// Returns what is expected after a word of which `expected` says what it may be.
 fn expected_after(expected: Expected, word: &str) -> Expected
     ensures { result ≡ expected_after expected word.now }
 {
@@ -73,7 +73,7 @@ fn expected_after(expected: Expected, word: &str) -> Expected
     }
 }
 
-/// Adds an index where it is that of a word which stands for itself.
+/// Appends `index` where the word at it is a positional argument.
 fn add_place(
     found: &mut Vec<usize>,
     index: usize,
@@ -88,7 +88,7 @@ fn add_place(
     Ok(())
 }
 
-/// Returns the indices of the words that stand for themselves.
+/// Returns the indices of the positional arguments.
 fn places<S: AsStr>(alloc: Global, words: &[S]) -> Result<Vec<usize>, AllocError>
     ensures { IfOk result (λ found. found.items ≡ places Any 0 (map S.text words.now)) }
 {
@@ -109,8 +109,8 @@ fn is_command(word: &str) -> bool
     word == "window" || word == "info" || word == "describe"
 }
 
-/// Returns how many words stand for themselves in a whole line of a command: the program's own name, the command, SERVER and NAME, and
-/// the sides of a window.
+/// Returns how many positional arguments a line of a command has. They are the program's own name, the command, SERVER, NAME, and the sides
+/// of a window. With `is_whole` there are no sides.
 fn words_needed(command: &str, is_whole: bool) -> usize
     ensures { result ≡ words_needed command.now is_whole }
 {
@@ -121,7 +121,8 @@ fn words_needed(command: &str, is_whole: bool) -> usize
     }
 }
 
-/// Returns the index of the word that stands where the server does, in a line of a command in which words are missing.
+/// Returns the index of the word that stands where the server does, in a line of a command that lacks words. Returns `None` for any other
+/// line.
 fn single_word<S: AsStr>(alloc: Global, words: &[S]) -> Result<Option<usize>, AllocError>
     ensures { IfOk result (λ index. index ≡ single_word (map S.text words.now)) }
 {
@@ -137,7 +138,7 @@ fn single_word<S: AsStr>(alloc: Global, words: &[S]) -> Result<Option<usize>, Al
     }
 }
 
-/// Returns how the words of `cogread` name a file; the first of them is its own name.
+/// Returns how the words of `cogread` name a file. The first word is the program's own name. Fails where no memory is left.
 pub fn file_word<S: AsStr>(alloc: Global, words: &[S]) -> Result<FileWord, AllocError>
     ensures { IfOk result (IsFileWord (map S.text words.now)) }
 {
@@ -152,7 +153,7 @@ pub fn file_word<S: AsStr>(alloc: Global, words: &[S]) -> Result<FileWord, Alloc
     }
 }
 
-/// Returns words with others in the place of the one at an index.
+/// Returns `words` with the words `instead` for the one at `index`. Fails where no memory is left.
 pub fn words_instead<'a>(
     alloc: Global,
     words: &[&'a str],

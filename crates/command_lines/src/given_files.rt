@@ -1,18 +1,18 @@
-//! Files that words give with a name or without one, and their names.
+//! Files that words give by a path, with a name or without one.
 ghost use Rattle.std.specs.Prelude.{◌≡◌, ◌++◌, ◌∷◌, [], IfOk, MatchOption, OnOk};
 ghost use Rattle.command_lines.specs.NamedFiles.{AreNamedFiles, AreOfOneName, HaveOtherNames, HaveOwnNames, IsNamedFile, IsOfName};
 
 use crate::names::name_of_path;
 use std::alloc::{AllocError, Global};
 
-/// A file to be published: its name, and its path.
+/// Holds a file to be published: its name, and its path.
 #[derive(Debug, Drop)]
 pub struct NamedFile<'a> {
     pub name: String,
     pub path: &'a str,
 }
 
-/// Makes the file of a word, which is `NAME=PATH`, cut at the first `=`, or a path.
+/// Makes the file of a word, which is `NAME=PATH`, cut at the first `=`, or a path alone.
 fn named_file(alloc: Global, word: &str) -> Result<NamedFile<'_>, AllocError>
     ensures { IfOk result (IsNamedFile word.now) }
 {
@@ -28,7 +28,7 @@ fn named_file(alloc: Global, word: &str) -> Result<NamedFile<'_>, AllocError>
     }
 }
 
-/// Makes the files of words, one for each.
+/// Makes the files of words, one for each word. Fails where no memory is left.
 pub fn named_files<'a>(alloc: Global, words: &[&'a str]) -> Result<Vec<NamedFile<'a>>, AllocError>
     ensures { IfOk result (λ files. AreNamedFiles words.now files.items) }
 {
@@ -39,14 +39,14 @@ pub fn named_files<'a>(alloc: Global, words: &[&'a str]) -> Result<Vec<NamedFile
     Ok(files)
 }
 
-/// Adds a file behind the others.
+/// Appends a file.
 fn add_named<'a>(files: &mut Vec<NamedFile<'a>>, file: NamedFile<'a>) -> Result<(), AllocError>
     ensures { OnOk result (files.new.items ≡ files.old.items ++ file.entry ∷ []) }
 {
     Ok(files.push(file)?)
 }
 
-/// Returns the first of the files that has this name, if one has.
+/// Returns the first file with the name `name`, or `None` where no file has it.
 fn of_name<'f, 'a>(files: &'f [NamedFile<'a>], name: &str) -> Option<&'f NamedFile<'a>>
     ensures { MatchOption result (HaveOtherNames name.now files.now) (λ file. IsOfName name.now files.now file.now) }
 {
@@ -58,7 +58,8 @@ fn of_name<'f, 'a>(files: &'f [NamedFile<'a>], name: &str) -> Option<&'f NamedFi
     None
 }
 
-/// Returns the first file that has the name of an earlier one, behind that one, if there is one.
+/// Returns the first file that has the name of an earlier one, as the second of a pair. The earlier file is the first. Returns `None` where
+/// all names differ.
 pub fn two_of_one_name<'f, 'a>(
     files: &'f [NamedFile<'a>],
 ) -> Option<(&'f NamedFile<'a>, &'f NamedFile<'a>)>

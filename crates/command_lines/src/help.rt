@@ -1,9 +1,9 @@
-//! What help tells of all programs: the version, the faults of files, the refusals and the exit statuses.
+//! What help prints for all programs: the version, the faults of files, the refusals and the exit statuses.
 
 /// The version of the programs.
 pub const VERSION: &str = "0.1.0";
 
-/// What `cogread --help` tells behind its options.
+/// The text that `cogread --help` prints after its options.
 pub const READ_NOTES: &str = "\
 Example:
   cogtools cogread http://127.0.0.1:8080/a.tif
@@ -39,7 +39,7 @@ Exit status:
   3  A fault of the file
   4  `no report` stands after all requests";
 
-/// What `cogserve --help` tells behind its options.
+/// The text that `cogserve --help` prints after its options.
 pub const SERVE_NOTES: &str = "\
 Example:
   cogtools cogserve --listen 127.0.0.1:8080 --epoch 1 --connections 100 a.tif=/data/a.tif
@@ -56,7 +56,7 @@ Exit status:
   1  A file can't be read or is refused, can't listen, accept or write, or out of memory
   2  The words aren't those above";
 
-/// What `cogserve --help` tells behind its options, of the form in which each may be left out.
+/// The text that `cogserve --help` prints after its options, for the form in which each may be left out.
 pub const QUICK_NOTES: &str = "\
 Example:
   cogtools cogserve a.tif b=/data/b.tif
@@ -78,7 +78,7 @@ Exit status:
   1  A file can't be read or is refused, can't listen, accept or write, no clock, or out of memory
   2  The words aren't those above, or two files have one name";
 
-/// What `cogworld --help` tells behind its options.
+/// The text that `cogworld --help` prints after its options.
 pub const WORLD_NOTES: &str = "\
 Example:
   cogtools cogworld law_one_window.txt

@@ -1,4 +1,4 @@
-//! The command lines of `cogserve`, `cogread` and `cogworld`: their words, the numbers that words write, and what help tells.
+//! Reads the command lines of `cogserve`, `cogread` and `cogworld`, and the numbers in their words. It has the texts of help.
 #![tactic(auto)]
 
 mod arguments;

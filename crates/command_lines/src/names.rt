@@ -1,11 +1,11 @@
-//! The names under which files are published that are given without one.
+//! Names of files that are given by their paths alone.
 ghost use Rattle.std.specs.Prelude.{◌≡◌, ◌<◌, IfOk, map, string_bytes};
 ghost use Rattle.command_lines.specs.FileName.{name_byte, name_of_path};
 
 use std::alloc::{AllocError, Global};
 use std::path::Path;
 
-/// Returns a byte of a name, which is `_` in the place of a byte that no name has.
+/// Returns a byte of a name, or `_` instead of a byte that no name has.
 fn name_byte(byte: u8) -> u8
     ensures value { result ≡ name_byte byte }
     ensures ascii { result < 128 }
@@ -17,7 +17,7 @@ fn name_byte(byte: u8) -> u8
     }
 }
 
-/// Makes a name of the bytes of a text: `_` stands in the place of each that no name has.
+/// Makes a name of the bytes of a text, with `_` instead of each byte that no name has.
 fn named_as(alloc: Global, text: &str) -> Result<String, AllocError>
     ensures { IfOk result (λ name. string_bytes name ≡ map name_byte text.now) }
 {
@@ -28,8 +28,8 @@ fn named_as(alloc: Global, text: &str) -> Result<String, AllocError>
     Ok(name)
 }
 
-/// Makes the name of a file from its path: the last part, in which bytes that no name has become `_`. A path without one, as `..`, has
-/// the empty name, which no file has.
+/// Makes the name of a file of the last part of its path, with `_` instead of each byte that no name has. A path without a last part, as
+/// `..`, gives the empty name, which no file has. Fails where no memory is left.
 pub fn name_of_path(alloc: Global, path: &str) -> Result<String, AllocError>
     ensures { IfOk result (λ name. string_bytes name ≡ name_of_path path.now) }
 {

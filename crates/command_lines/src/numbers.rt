@@ -4,7 +4,7 @@ ghost use Rattle.command_lines.specs.Number.{number_from};
 
 use http_fields::digits::number_64;
 
-/// The number that a word of 1 to 10 decimal digits writes, if it is from `least` to `greatest`.
+/// Returns the number that a word of 1 to 10 decimal digits writes, or `None` where it isn't from `least` to `greatest`.
 pub fn number_from(word: &str, least: u32, greatest: u32) -> Option<u32>
     ensures { result ≡ number_from least greatest word.now }
 {

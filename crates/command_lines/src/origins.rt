@@ -18,7 +18,7 @@ fn are_visible(word: &[u8]) -> bool
     word.iter().all(|b| is_visible(*b))
 }
 
-/// Returns whether a word is an origin: 1 to 255 visible bytes. One of these is `*`, which stands for any origin.
+/// Returns whether a word is an origin: 1 to 255 visible bytes. The word `*`, which stands for any origin, is one.
 pub fn is_origin(word: &str) -> bool
     ensures { result ≡ is_origin word.now }
 {

@@ -1,4 +1,4 @@
-//! The command line of `cogserve` in which each option may be left out, and which of its two forms a line is of.
+//! The command line of `cogserve` in which each option may be left out, and the choice between its two forms.
 ghost use Rattle.std.specs.Prelude.{◌≡◌, true, false, IfOk, IfErr, codes, map};
 ghost use Rattle.std.specs.List.{before_first};
 ghost use Rattle.clap.specs.Words.{FailsBy, fault_of, kind_of, matches_of, takes};
@@ -10,8 +10,7 @@ use clap::error::ErrorKind;
 use std::alloc::Global;
 use std::convert::AsStr;
 
-/// The words of `cogserve`'s command line where they aren't of the full form. Each option may be left out, and a file may be given by its
-/// path alone.
+/// Holds the words of `cogserve` in the form where each option may be left out. A file may be given by its path alone.
 #[derive(Drop)]
 pub struct QuickLine<'a> {
     pub listen: Option<&'a str>,
@@ -21,24 +20,25 @@ pub struct QuickLine<'a> {
     pub patience: Option<&'a str>,
     /// The origin whose pages may read the files in a browser, or `*` for any.
     pub allow_origin: Option<&'a str>,
-    /// Whether the line says what this form does anyway: that the last answer on a connection says that it is the last.
+    /// Whether `--announce-last` stands. In this form the last answer on a connection says that it is the last in any case.
     pub announce_last: bool,
-    /// How many seconds pass at least before the bytes of files that seem unchanged are compared again.
+    /// The least number of seconds between two comparisons of the bytes of a file that seems unchanged.
     pub verify: Option<&'a str>,
     /// Whether a log is kept on standard error.
     pub log: bool,
     pub files: Vec<&'a str>,
 }
 
-/// A line of `cogserve`, by its form.
+/// Holds a line of `cogserve` in one of its two forms.
 #[derive(Drop)]
 pub enum StartLine<'a> {
-    /// The options `--listen`, `--epoch` and `--connections` stand, and each file has its name.
+    /// The line has the options `--listen`, `--epoch` and `--connections`, and each file has its name.
     Full(ServeLine<'a>),
+    /// The line is of the form in which each option may be left out.
     Quick(QuickLine<'a>),
 }
 
-/// Returns the part of a word that names an option, if one does: all before the first `=`, or the whole word.
+/// Returns the name of the option that a word may be: all before the first `=`, or the whole word.
 fn option_name(word: &str) -> &str
     ensures { result.now ≡ option_name word.now }
 {
@@ -48,7 +48,7 @@ fn option_name(word: &str) -> &str
     }
 }
 
-/// Returns whether an option of this name stands before a word `--`.
+/// Returns whether an option with the name `name` stands before a word `--`.
 pub(crate) fn has_option<S: AsStr>(words: &[S], name: &str) -> bool
     ensures { result ≡ has_option name.now (map S.text words.now) }
 {
@@ -64,7 +64,7 @@ pub(crate) fn has_option<S: AsStr>(words: &[S], name: &str) -> bool
     false
 }
 
-/// Returns whether words are of the full form: its three options stand.
+/// Returns whether words are of the full form, in which `--listen`, `--epoch` and `--connections` all stand.
 fn is_full<S: AsStr>(words: &[S]) -> bool
     ensures { result ≡ is_full (map S.text words.now) }
 {
@@ -73,7 +73,7 @@ fn is_full<S: AsStr>(words: &[S]) -> bool
         && has_option(words, "--connections")
 }
 
-/// Reads words of the form in which each option may be left out.
+/// Reads words of the form in which each option may be left out. Fails where clap refuses them, or where no memory is left.
 fn quick_line<'a, S: AsStr>(alloc: Global, words: &'a [S]) -> Result<QuickLine<'a>, Error>
     ensures ok { IfOk result (HasQuickValues (matches_of quick_app (map S.text words.entry.now))) }
     ensures err { IfErr result (λ e. takes quick_app (map S.text words.entry.now) ≡ true → kind_of e ≡ ErrorKind.OutOfMemory) }
@@ -96,13 +96,13 @@ fn quick_line<'a, S: AsStr>(alloc: Global, words: &'a [S]) -> Result<QuickLine<'
     })
 }
 
-/// Reads `cogserve`'s words, of which the first is its own name. Only where `--listen`, `--epoch` and `--connections` all stand is the line
-/// of the full form.
+/// Reads the words of `cogserve`, of which the first is its own name. The line is of the full form only where `--listen`, `--epoch` and
+/// `--connections` all stand. Fails where clap refuses the words, or where no memory is left.
 pub fn start_line<'a, S: AsStr>(alloc: Global, words: &'a [S]) -> Result<StartLine<'a>, Error>
     ensures ok { IfOk result (HasStart (map S.text words.entry.now)) }
     ensures err { IfErr result (λ e. takes (start_app (map S.text words.entry.now)) (map S.text words.entry.now) ≡ true
         → kind_of e ≡ ErrorKind.OutOfMemory) }
-    // Words that clap refuses are refused as it does.
+    // Words that clap refuses fail with clap's kind of error.
     ensures kinds { FailsBy (fault_of (start_app (map S.text words.entry.now)) (map S.text words.entry.now)) result }
 {
     if is_full(words) {

@@ -9,8 +9,7 @@ use clap::{Arg, ArgMatches, Command, Error};
 use std::alloc::{AllocError, Global};
 use std::convert::AsStr;
 
-/// The words of `cogread`'s command line, as they are written: the server as `HOST:PORT`, the file's name, what is asked of it, and
-/// the options that are there.
+/// Holds the words of `cogread` as they are written: the server as `HOST:PORT`, the file's name, what is asked of it, and the options.
 #[derive(Clone, Copy, Debug, PartialEq, Eq)]
 pub struct ReadLine<'a> {
     pub server: &'a str,
@@ -21,28 +20,30 @@ pub struct ReadLine<'a> {
     pub ahead: Option<&'a str>,
     /// Whether the connection is kept from one request to the next.
     pub keep: bool,
-    /// Whether each request has a connection of its own, also where a URL names the file.
+    /// Whether each request has a connection of its own, even where a URL names the file.
     pub close: bool,
-    /// Where the report is written, if not to standard output.
+    /// The file that the report is written to, instead of standard output.
     pub output: Option<&'a str>,
-    /// Whether each exchange is told.
+    /// Whether a line is printed for each exchange.
     pub verbose: bool,
-    /// Whether it is drawn how far the exchanges have come.
+    /// Whether the progress of the exchanges is drawn.
     pub progress: bool,
 }
 
-/// What is asked of a file.
+/// Says what is asked of a file.
 #[derive(Clone, Copy, Debug, PartialEq, Eq)]
 pub enum AskedWords<'a> {
+    /// The sides of the levels, and what georeferences the image.
     Info,
     /// A description, in JSON or in words.
     Description { is_json: bool },
+    /// The samples of a window.
     Window(WindowWords<'a>),
     /// The whole of a level, if one is picked.
     Whole { level: Option<&'a str> },
 }
 
-/// A window: its left column, its top row, its sides, and the level that is picked, if one is.
+/// Holds a window: its left column, its top row, its sides, and the level or the columns that pick its level.
 #[derive(Clone, Copy, Debug, PartialEq, Eq)]
 pub struct WindowWords<'a> {
     pub x: &'a str,
@@ -74,7 +75,7 @@ Example:
 
 http://HOST[:PORT]/NAME stands for SERVER NAME, and its connection is kept. So does the path of a file of the disk.";
 
-/// Adds an argument, if there is one.
+/// Appends an argument, unless making it failed.
 fn try_add<'a>(
     arguments: &mut Vec<Arg<'a>>,
     argument: Result<Arg<'a>, AllocError>,
@@ -82,7 +83,7 @@ fn try_add<'a>(
     add(arguments, argument?)
 }
 
-/// Adds a word that has to stand.
+/// Appends a positional argument that is required.
 fn add_word<'a>(
     alloc: Global,
     arguments: &mut Vec<Arg<'a>>,
@@ -92,7 +93,7 @@ fn add_word<'a>(
     add(arguments, Arg::new(alloc, name).help(help).required(true))
 }
 
-/// Adds a word that has to stand where the whole of a level isn't asked for.
+/// Appends a positional argument that is required unless `--whole` stands.
 fn add_side<'a>(
     alloc: Global,
     arguments: &mut Vec<Arg<'a>>,
@@ -104,7 +105,7 @@ fn add_side<'a>(
     try_add(arguments, side.conflicts_with("whole"))
 }
 
-/// Adds an option without a value, which doesn't stand beside another option.
+/// Appends an option without a value, which excludes the option `other`.
 fn add_flag_without<'a>(
     alloc: Global,
     arguments: &mut Vec<Arg<'a>>,
@@ -115,18 +116,18 @@ fn add_flag_without<'a>(
     try_add(arguments, flag(alloc, name, help).conflicts_with(other))
 }
 
-/// Adds the options of how much is asked for.
+/// Appends the options that set limits: on requests, on the blocks of the cache, and on the blocks that are asked for early.
 fn add_amounts<'a>(alloc: Global, arguments: &mut Vec<Arg<'a>>) -> Result<(), AllocError> {
-    let help = "At most so many requests, 1 to 65536 (default 64)";
+    let help = "Makes at most N requests, 1 to 65536 (default 64)";
     add_choice(alloc, arguments, "requests", "N", help)?;
-    let help = "Blocks of 16384 bytes that are kept, 66 to 4096 (default 256)";
+    let help = "Keeps N blocks of 16384 bytes, 66 to 4096 (default 256)";
     add_choice(alloc, arguments, "blocks", "N", help)?;
     let help =
-        "Blocks that a request may ask for early, behind those that are needed next, 0 to 64 (default 0; with a URL 64)";
+        "Blocks that a request may ask for early, after those that are needed next, 0 to 64 (default 0; with a URL 64)";
     add_choice(alloc, arguments, "ahead", "N", help)
 }
 
-/// Adds the options of whether a connection is kept.
+/// Appends the options that say whether a connection is kept.
 fn add_connections<'a>(alloc: Global, arguments: &mut Vec<Arg<'a>>) -> Result<(), AllocError> {
     let help = "Keeps one connection for all requests, as long as the server does";
     add_flag_without(alloc, arguments, "keep", "close", help)?;
@@ -135,18 +136,18 @@ fn add_connections<'a>(alloc: Global, arguments: &mut Vec<Arg<'a>>) -> Result<()
     add_flag(alloc, arguments, "close", help)
 }
 
-/// Adds the options of what is written.
+/// Appends the options that say where the report goes, and what is printed beside it.
 fn add_telling<'a>(alloc: Global, arguments: &mut Vec<Arg<'a>>) -> Result<(), AllocError> {
     let help =
         "Writes to this file, which is replaced once all is there (default: standard output)";
     add_choice(alloc, arguments, "output", "FILE", help)?;
-    let help = "Tells each exchange, and why there is no report, on standard error";
+    let help = "Prints each exchange on standard error, and why there is no report";
     add_flag(alloc, arguments, "verbose", help)?;
     let help = "Draws on standard error, as one line over itself, how many ranges and bytes came";
     add_flag_without(alloc, arguments, "progress", "verbose", help)
 }
 
-/// Adds the words and options that each command has: the server and the name first, the options last.
+/// Appends the arguments of each command: the server and the name first, the options last.
 fn add_common<'a>(alloc: Global, arguments: &mut Vec<Arg<'a>>) -> Result<(), AllocError> {
     add_word(alloc, arguments, "SERVER", "The server, as HOST:PORT")?;
     add_word(
@@ -160,7 +161,7 @@ fn add_common<'a>(alloc: Global, arguments: &mut Vec<Arg<'a>>) -> Result<(), All
     add_telling(alloc, arguments)
 }
 
-/// Adds the sides of a window.
+/// Appends the sides of a window.
 fn add_sides<'a>(alloc: Global, arguments: &mut Vec<Arg<'a>>) -> Result<(), AllocError> {
     add_side(alloc, arguments, "X", "The left column, in pixels from 0")?;
     add_side(alloc, arguments, "Y", "The top row, in pixels from 0")?;
@@ -168,7 +169,7 @@ fn add_sides<'a>(alloc: Global, arguments: &mut Vec<Arg<'a>>) -> Result<(), Allo
     add_side(alloc, arguments, "H", "The height, in pixels")
 }
 
-/// Adds the options of which level is read, and how much of it.
+/// Appends the options that pick the level, and the whole of it.
 fn add_levels<'a>(alloc: Global, arguments: &mut Vec<Arg<'a>>) -> Result<(), AllocError> {
     let help = "The level, 0 for the largest (default 0)";
     let level = choice(alloc, "level", "N", help).conflicts_with("columns");
@@ -176,11 +177,11 @@ fn add_levels<'a>(alloc: Global, arguments: &mut Vec<Arg<'a>>) -> Result<(), All
     let help =
         "The smallest level in which the window is at least C columns wide; X Y W H are then of level 0 (no default)";
     add_choice(alloc, arguments, "columns", "C", help)?;
-    let help = "The whole of the level, in the place of X Y W H";
+    let help = "The whole of the level, instead of X Y W H";
     add_flag_without(alloc, arguments, "whole", "columns", help)
 }
 
-/// Adds a command with these words and options.
+/// Appends a command with these arguments.
 fn add_command<'a>(
     alloc: Global,
     commands: &mut Vec<Command<'a>>,
@@ -213,10 +214,10 @@ fn add_window<'a>(alloc: Global, commands: &mut Vec<Command<'a>>) -> Result<(), 
 fn add_describe<'a>(alloc: Global, commands: &mut Vec<Command<'a>>) -> Result<(), AllocError> {
     let mut arguments = Vec::new(alloc);
     add_common(alloc, &mut arguments)?;
-    let help = "Tells it in JSON, with gdalinfo's keys where they mean the same";
+    let help = "Prints JSON, with gdalinfo's keys where they mean the same";
     add_flag(alloc, &mut arguments, "json", help)?;
     let about =
-        "Tells what a file is: its levels, coordinate system, origin, size of a pixel and corners";
+        "Describes a file: its levels, coordinate system, origin, size of a pixel and corners";
     add_command(
         alloc,
         commands,
@@ -235,7 +236,7 @@ fn subcommands<'a>(alloc: Global) -> Result<Vec<Command<'a>>, AllocError> {
     Ok(commands)
 }
 
-/// The command without its subcommands.
+/// Makes the command without its subcommands.
 fn bare_command<'a>(alloc: Global) -> Command<'a> {
     Command::new(alloc, "cogread")
         .about(
@@ -252,14 +253,14 @@ fn read_command<'a>(alloc: Global) -> Result<Command<'a>, AllocError> {
     bare_command(alloc).subcommands(commands)
 }
 
-/// The value of a word that has to stand.
+/// Returns the value of a required argument.
 fn value<'a>(matches: &ArgMatches<'a>, name: &str) -> &'a str
     ensures { result.now ≡ word_of name.now (rows_of (found_of matches.now)) }
 {
     matches.get_str(name).unwrap_or("")
 }
 
-/// The words of a window.
+/// Returns the words of a window.
 fn words_of_window<'a>(matches: &ArgMatches<'a>) -> WindowWords<'a>
     ensures { HasWindow (rows_of (found_of matches.now)) result }
 {
@@ -292,7 +293,7 @@ fn description_words(matches: &ArgMatches<'_>) -> AskedWords<'static>
     }
 }
 
-/// The line of a subcommand's words.
+/// Returns the line that a subcommand's words make, which asks for `asked`.
 fn line_of<'a>(matches: &ArgMatches<'a>, asked: AskedWords<'a>) -> ReadLine<'a>
     ensures words { HasLine (rows_of (found_of matches.now)) result }
     ensures asked { result.asked ≡ asked.entry }
@@ -312,7 +313,7 @@ fn line_of<'a>(matches: &ArgMatches<'a>, asked: AskedWords<'a>) -> ReadLine<'a>
     }
 }
 
-/// The line of the subcommand that was found.
+/// Returns the line of the subcommand that was found.
 fn found_line<'a>(matches: &ArgMatches<'a>) -> ReadLine<'a>
     ensures { HasFound (subcommand_rows_of matches.now) (rows_of (found_of matches.now)) result }
 {
@@ -324,7 +325,7 @@ fn found_line<'a>(matches: &ArgMatches<'a>) -> ReadLine<'a>
     }
 }
 
-/// Reads `cogread`'s words, of which the first is its own name.
+/// Reads the words of `cogread`, of which the first is its own name. Fails where clap refuses them, or where no memory is left.
 pub fn read_line<'a, S: AsStr>(alloc: Global, words: &'a [S]) -> Result<ReadLine<'a>, Error> {
     let command = read_command(alloc)?;
     let matches = command.try_get_matches_from(words)?;

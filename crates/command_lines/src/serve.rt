@@ -11,9 +11,8 @@ use clap::{Arg, ArgAction, Command, Error};
 use std::alloc::{AllocError, Global};
 use std::convert::AsStr;
 
-/// The words of `cogserve`'s command line: where it listens, its epoch, how many connections it serves in all and at once, how many
-/// seconds one without progress keeps its place, what it adds to answers, how often it compares bytes, whether there is a log, and its
-/// files as `NAME=PATH`.
+/// Holds the words of `cogserve`: where it listens, its epoch, and how many connections it serves, in all and at once. `patience` is the
+/// number of seconds that a connection without progress keeps its slot. A file is `NAME=PATH`.
 #[derive(Drop)]
 pub struct ServeLine<'a> {
     pub listen: &'a str,
@@ -25,14 +24,14 @@ pub struct ServeLine<'a> {
     pub allow_origin: Option<&'a str>,
     /// Whether the last answer on a connection says that it is the last.
     pub announce_last: bool,
-    /// How many seconds pass at least before the bytes of files that seem unchanged are compared again.
+    /// The least number of seconds between two comparisons of the bytes of a file that seems unchanged.
     pub verify: Option<&'a str>,
     /// Whether a log is kept on standard error.
     pub log: bool,
     pub files: Vec<&'a str>,
 }
 
-/// What help says of a form of the line, and whether its options of where, by which epoch and how often it serves have to stand.
+/// Holds what help says of a form of the line, and whether `--listen`, `--epoch` and `--connections` are required.
 #[derive(Clone, Copy)]
 pub(crate) struct Form {
     required: bool,
@@ -44,7 +43,7 @@ pub(crate) struct Form {
     notes: &'static str,
 }
 
-/// The full form.
+/// The full form, in which these three options are required.
 const FULL: Form = Form {
     required: true,
     listen: "Where to listen (no default)",
@@ -66,7 +65,7 @@ pub(crate) const QUICK: Form = Form {
     notes: QUICK_NOTES,
 };
 
-/// An option with one value, which has to stand or may be left out.
+/// Makes an option with one value, which is required or may be left out.
 fn valued<'a>(
     alloc: Global,
     required: bool,
@@ -91,7 +90,7 @@ fn files<'a>(alloc: Global, value: &'a str, help: &'a str) -> Arg<'a>
         .action(ArgAction::Append)
 }
 
-/// Adds an option with one value, which has to stand or may be left out.
+/// Adds an option with one value, which is required or may be left out.
 fn add_valued<'a>(
     alloc: Global,
     arguments: &mut Vec<Arg<'a>>,
@@ -155,11 +154,11 @@ fn add_arguments<'a>(
         "Compares the bytes of files that seem unchanged, at most once in SECONDS, 1 to 86400";
     add_choice(alloc, arguments, "verify", "SECONDS", help)?;
     let help =
-        "Tells each answer on standard error, why a file isn't taken anew, and where it listens";
+        "Prints each answer on standard error, why a file isn't taken anew, and where it listens";
     add_flag(alloc, arguments, "log", help)
 }
 
-/// The command that reads lines of a form.
+/// Makes the command that reads lines of a form.
 pub(crate) fn serve_command<'a>(alloc: Global, form: Form) -> Result<Command<'a>, AllocError>
     ensures { IfOk result (λ command. app_of command ≡ serve_app_of form.required) }
 {
@@ -172,11 +171,11 @@ pub(crate) fn serve_command<'a>(alloc: Global, form: Form) -> Result<Command<'a>
         .args(arguments)
 }
 
-/// Reads `cogserve`'s words, of which the first is its own name.
+/// Reads the words of `cogserve`, of which the first is its own name. Fails where clap refuses them, or where no memory is left.
 pub fn serve_line<'a, S: AsStr>(alloc: Global, words: &'a [S]) -> Result<ServeLine<'a>, Error>
     ensures ok { IfOk result (HasValues (matches_of serve_app (map S.text words.entry.now))) }
     ensures err { IfErr result (λ e. takes serve_app (map S.text words.entry.now) ≡ true → kind_of e ≡ ErrorKind.OutOfMemory) }
-    // Words that clap refuses are refused as it does.
+    // Words that clap refuses fail with clap's kind of error.
     ensures kinds { FailsBy (fault_of serve_app (map S.text words.entry.now)) result }
 {
     let command = serve_command(alloc, FULL)?;

@@ -10,7 +10,7 @@ use clap::{Arg, ArgAction, Command, Error};
 use std::alloc::{AllocError, Global};
 use std::convert::AsStr;
 
-/// The words of `cogworld`'s command line: the path of the script, and how many bytes a piece of an answer has.
+/// Holds the words of `cogworld`: the path of the script, and the number of bytes of a piece of an answer.
 #[derive(Clone, Copy, Debug, PartialEq, Eq)]
 pub struct WorldLine<'a> {
     pub script: &'a str,
@@ -37,15 +37,15 @@ fn world_command<'a>(alloc: Global) -> Result<Command<'a>, AllocError>
         .version(VERSION)
         .after_help(WORLD_NOTES)
         .arg(script(alloc))?;
-    let help = "Clients get each answer in pieces of so many bytes, 1 to 1069056 (default: whole)";
+    let help = "Clients get each answer in pieces of N bytes, 1 to 1069056 (default: whole)";
     command.arg(choice(alloc, "pieces", "N", help))
 }
 
-/// Reads `cogworld`'s words, of which the first is its own name. Words that clap takes are refused only for want of memory.
+/// Reads the words of `cogworld`, of which the first is its own name. Words that clap takes fail only where no memory is left.
 pub fn world_line<'a, S: AsStr>(alloc: Global, words: &'a [S]) -> Result<WorldLine<'a>, Error>
     ensures ok { IfOk result (HasValues (matches_of world_app (map S.text words.entry.now))) }
     ensures err { IfErr result (λ e. takes world_app (map S.text words.entry.now) ≡ true → kind_of e ≡ ErrorKind.OutOfMemory) }
-    // Words that clap refuses are refused as it does.
+    // Words that clap refuses fail with clap's kind of error.
     ensures kinds { FailsBy (fault_of world_app (map S.text words.entry.now)) result }
 {
     let command = world_command(alloc)?;

@@ -1,4 +1,4 @@
-//! Files of the disk: reading those that a server publishes, when they have to be read again, and writing one whole.
+//! Reads files of the disk for a server, and sees when they have to be read again. Replaces a file by a new one as a whole.
 #![tactic(auto)]
 
 mod reading;

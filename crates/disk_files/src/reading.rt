@@ -10,13 +10,14 @@ use std::io;
 use std::io::Read;
 use std::rt::Files;
 
-/// One byte more than a published file may have: what comes after it isn't read.
+/// One byte more than a published file may have. What comes after it isn't read.
 const ENOUGH: u64 = FILE_LIMIT as u64 + 1;
 
-/// How many bytes are compared at once.
+/// The number of bytes that are compared at once.
 const PIECE: usize = 65_536;
 
-/// Returns what a reader gives, as far as it is enough to tell that it is too long to be published.
+/// Returns the bytes that a reader gives, but at most `FILE_LIMIT + 1`: that many show that a file is too large to be published. Fails
+/// where the reader does, or where no memory is left.
 pub fn enough_of<R: Read + Drop>(alloc: Global, reader: R) -> io::Result<Vec<u8>>
     ensures { IfOk result (λ bytes. (given : List ℕ) → R.remaining reader ≡ Some given → bytes.items ≡ take (FILE_LIMIT + 1) given) }
 {
@@ -25,21 +26,22 @@ pub fn enough_of<R: Read + Drop>(alloc: Global, reader: R) -> io::Result<Vec<u8>
     Ok(bytes)
 }
 
-/// The bytes of the file at a path, as far as they are enough to tell that it is too large to be published.
+/// Returns the bytes of the file at a path, but at most `FILE_LIMIT + 1`. Fails where it can't be opened or read, or where no memory is
+/// left.
 pub fn read_file<R: Files + AllocGlobal>(rt: &R, path: &str) -> io::Result<Vec<u8>> {
     enough_of(rt.alloc(), File::open(rt, path)?)
 }
 
-/// Where a reader gives other bytes than expected: how many came as expected, and how many stand in the piece that came after them. None
-/// stand there where the reader has ended before.
+/// Holds where a reader gives other bytes than expected. `same` bytes came as expected, and then a piece with `other` bytes, which is empty
+/// where the reader has ended.
 #[derive(Clone, Copy)]
 pub struct Difference {
     pub same: usize,
     pub other: usize,
 }
 
-/// Reads until a reader has given other bytes than `bytes`, or has ended. Returns `None` where it gave just `bytes`. `piece` is room for
-/// what is compared at once.
+/// Reads until a reader has given other bytes than `bytes`, or has ended. Returns `None` where it gave just `bytes`. Each comparison reads
+/// into `piece`.
 fn first_difference<R: Read>(
     reader: &mut R,
     piece: &mut [u8],
@@ -65,8 +67,8 @@ fn first_difference<R: Read>(
     unreachable!()
 }
 
-/// Returns what a reader gives, as far as it is enough to tell that it is too long to be published. Returns `None` where that is just
-/// `bytes`: then no more of it is held than a piece.
+/// Returns the bytes that a reader gives, but at most `FILE_LIMIT + 1`, or `None` where they are just `bytes`. As long as they are the
+/// same, only a piece of them is held. Fails where the reader does, or where no memory is left.
 pub fn other_bytes<R: Read + Drop>(
     alloc: Global,
     mut reader: R,

@@ -11,7 +11,7 @@ use std::fs::Metadata;
 use std::os::unix::fs::MetadataExt;
 use std::time::Duration;
 
-/// Where a file is, how long, and when it was modified and changed, each in seconds and nanoseconds since 1970.
+/// Holds where a file is, its length in bytes, and when it was modified and changed. A time is in seconds and nanoseconds since 1970.
 #[derive(Clone, Copy, PartialEq, Eq)]
 pub struct Stamp {
     pub device: u64,
@@ -21,7 +21,7 @@ pub struct Stamp {
     pub changed: (i64, i64),
 }
 
-/// Whether a file that was changed then was left alone for more than two seconds; both times are since 1970.
+/// Returns whether more than two seconds lie between `changed`, when a file was changed, and `now`. Both are since 1970.
 fn is_settled(changed: Duration, now: Duration) -> bool
     ensures { IsTrue result ↔ IsSettled (as_nanos changed) (as_nanos now) }
 {
@@ -31,7 +31,7 @@ fn is_settled(changed: Duration, now: Duration) -> bool
     }
 }
 
-/// The moment of these seconds and nanoseconds since 1970; none where it lies before.
+/// Returns a time in seconds and nanoseconds since 1970, or `None` where it lies before 1970.
 fn moment(time: (i64, i64)) -> Option<Duration>
     ensures { IfSome result (λ d. moment time ≡ Some (as_nanos d)) }
 {
@@ -40,7 +40,7 @@ fn moment(time: (i64, i64)) -> Option<Duration>
     Duration::from_secs(seconds).checked_add(Duration::from_nanos(nanos))
 }
 
-/// The stamp of a file that was looked at then or later, where each later write of its bytes shows in it.
+/// Returns the stamp of a file that was looked at at `now` or later. Returns `None` where a later write of its bytes might not show in it.
 fn settled(stamp: Stamp, now: Duration) -> Option<Stamp>
     ensures same { IfSome result (λ kept. kept ≡ stamp) }
     ensures settled { IfSome result (λ kept. IsSettledSince kept.changed (as_nanos now)) }
@@ -52,7 +52,8 @@ fn settled(stamp: Stamp, now: Duration) -> Option<Stamp>
     }
 }
 
-/// What the disk says of a file that was looked at then or later, where each later write of its bytes shows in it.
+/// Returns the stamp of a file that was looked at at `now` or later. Returns `None` where a later write of its bytes might not show in it.
+/// `now` is since 1970.
 pub fn stamp_of(metadata: &Metadata, now: Duration) -> Option<Stamp>
     ensures settled { IfSome result (λ stamp. IsSettledSince stamp.changed (as_nanos now)) }
     ensures length { IfSome result (λ stamp. stamp.length ≡ metadata_len metadata.now) }
@@ -67,7 +68,8 @@ pub fn stamp_of(metadata: &Metadata, now: Duration) -> Option<Stamp>
     settled(stamp, now)
 }
 
-/// Whether the disk says just the same of a file as before, in both where each later write shows.
+/// Returns whether the disk says just the same of a file as before. It doesn't where either stamp is missing, since a write might not show
+/// then.
 pub fn is_unchanged(seen: Option<Stamp>, before: Option<Stamp>) -> bool
     ensures { IsTrue result ↔ IsSomeAnd seen (λ stamp. before ≡ Some stamp) }
 {

@@ -1,4 +1,4 @@
-//! A file of the disk that is published, and when it has to be read again.
+//! A file of the disk that a server publishes, and when to read it again.
 ghost use Rattle.std.specs.Prelude.{◌≡◌, ◌≤◌, ◌+◌, ◌-◌, ◌↔◌, ◌⊎◌, ℕ, List, IfErr, IfOk, IfSome, IsSome, IsSomeAnd, IsTrue, MatchOption, None, OnErr, OnOk, Some, length, take};
 ghost use Rattle.std.specs.Duration.{as_nanos};
 ghost use Rattle.std.specs.Fs.{file_type, metadata_len};
@@ -23,34 +23,35 @@ use std::rt::{Clock, Files};
 use std::time::Duration;
 use thiserror::Error;
 
-/// Why a file of the disk isn't published.
+/// Says why a file of the disk isn't published.
 #[derive(Debug, Drop, Error)]
 pub enum WatchError {
-    /// It can't be read.
+    /// The file can't be read.
     #[error("can't be read: {0}")]
     CantRead(io::Error),
-    /// The path is no file's: a folder's, or a pipe's.
+    /// The path leads to no plain file, but to a folder or a pipe.
     #[error("is no file")]
     NotAFile,
-    /// The server refuses it.
+    /// The server refuses the file.
     #[error("is refused: {0}")]
     Refused(PublishError),
 }
 
-/// A file of the command line.
+/// Watches a file of the command line.
 #[derive(Drop)]
 pub struct Watched<'a> {
     pub name: &'a str,
     pub path: &'a str,
     seen: Option<Stamp>,
-    /// How many milliseconds pass at least from one comparison to the next while the disk says the same of the file. `None` where its bytes
-    /// aren't compared then.
+    /// The least number of milliseconds between two comparisons of its bytes, while the disk says the same of the file. `None` where there
+    /// are no such comparisons.
     verify: Option<u64>,
     /// The moment of the last comparison, in milliseconds of one clock.
     compared: u64,
 }
 
-/// What is remembered of what the disk says, if it is a file's: where each later write shows in it, by the moment that is known.
+/// Returns the stamp to remember, or `None` where a later write might not show in it, or `now` isn't known. Fails with `NotAFile` where the
+/// path leads to no plain file.
 fn remembered(metadata: &Metadata, now: Option<Duration>) -> Result<Option<Stamp>, WatchError>
     ensures settled { IfOk result (λ seen. IfSome seen (λ stamp. IsSomeAnd now (λ n. IsSettledSince stamp.changed (as_nanos n)))) }
     ensures length { IfOk result (λ seen. IfSome seen (λ stamp. stamp.length ≡ metadata_len metadata.now)) }
@@ -66,7 +67,7 @@ fn remembered(metadata: &Metadata, now: Option<Duration>) -> Result<Option<Stamp
     }
 }
 
-/// Looks at a path, which is to be a file's: to open a pipe might wait for its writer.
+/// Looks at a path without opening it, since to open a pipe might wait for its writer. Returns the stamp to remember.
 fn look<R: Files + Clock>(rt: &R, path: &str) -> Result<Option<Stamp>, WatchError>
     ensures refused { (s : ServerState) (name : List ℕ) → IfErr result (IsRefusedBy s name) }
 {
@@ -75,8 +76,8 @@ fn look<R: Files + Clock>(rt: &R, path: &str) -> Result<Option<Stamp>, WatchErro
     remembered(&metadata, now)
 }
 
-/// Opens the file that a path leads to by now, which may be another one than was looked at, and looks at what is open. Returns its length
-/// in bytes, too.
+/// Opens the file at a path and looks at what is open, since the path may lead elsewhere by now. Returns the open file, the stamp to
+/// remember, and the length in bytes.
 fn open<R: Files + Clock>(rt: &R, path: &str) -> Result<(R::File, Option<Stamp>, u64), WatchError>
     ensures refused { (s : ServerState) (name : List ℕ) → IfErr result (IsRefusedBy s name) }
 {
@@ -87,7 +88,7 @@ fn open<R: Files + Clock>(rt: &R, path: &str) -> Result<(R::File, Option<Stamp>,
     Ok((file, seen, metadata.len()))
 }
 
-/// Returns why a server refuses each file of `size` bytes under a name, where its length decides. No byte of the file is needed.
+/// Returns why a server refuses each file of `size` bytes under `name`, or `None` where such a file isn't too large. It reads no byte.
 fn refusal_by_length(name: &[u8], size: u64) -> Option<PublishError>
     ensures small { result ≡ None ↔ (size ≤ FILE_LIMIT) }
     ensures refused { (s : ServerState) (file : List ℕ) → length file ≡ size
@@ -104,7 +105,8 @@ fn refusal_by_length(name: &[u8], size: u64) -> Option<PublishError>
     }
 }
 
-/// Returns what an open file gives, or `None` where its publication, if it has one, has just these bytes.
+/// Returns what an open file gives, at most `FILE_LIMIT + 1` bytes, or `None` where its publication has just these bytes. Without a
+/// publication it returns the bytes.
 fn unpublished_bytes<F: Read + Drop>(
     alloc: Global,
     published: Option<&[u8]>,
@@ -120,7 +122,7 @@ fn unpublished_bytes<F: Read + Drop>(
     }
 }
 
-/// Publishes a file, unless the one under its name has the same bytes.
+/// Publishes a file, unless the one under its name has the same bytes. Returns the new ETag, or `None` then.
 fn publish_other(
     server: &mut Server,
     name: &[u8],
@@ -145,7 +147,7 @@ fn publish_other(
 }
 
 impl<'a> Watched<'a> {
-    /// A file that wasn't read yet.
+    /// Makes a file that wasn't read yet. It is read again only where the disk says something else of it, or where a write might not show.
     pub fn new(name: &'a str, path: &'a str) -> Watched<'a>
         ensures name { result.name ≡ name.entry }
         ensures path { result.path ≡ path.entry }
@@ -154,8 +156,8 @@ impl<'a> Watched<'a> {
         Watched::verified(name, path, None)
     }
 
-    /// A file that wasn't read yet. With `verify` its bytes are compared also where the disk says the same of it as before, once so many
-    /// milliseconds have passed since they were last read. So a change through a mapping, which moves no time, is seen.
+    /// Makes a file that wasn't read yet. With `verify` its bytes are compared even where the disk says the same of it as before. That is
+    /// once `verify` milliseconds have passed since the last comparison. So a change through a mapping, which sets no time, is seen.
     pub fn verified(name: &'a str, path: &'a str, verify: Option<u64>) -> Watched<'a>
         ensures name { result.name ≡ name.entry }
         ensures path { result.path ≡ path.entry }
@@ -170,7 +172,7 @@ impl<'a> Watched<'a> {
         }
     }
 
-    /// Returns whether the bytes are to be compared at moment `now`, though the disk says the same of the file as before.
+    /// Returns whether the bytes are to be compared at the moment `now`, though the disk says the same of the file as before.
     fn is_due(&self, now: u64) -> bool
         ensures { IsTrue result ↔ IsSomeAnd (verify_of self.now) (λ millis. millis ≤ now - compared_of self.now) }
     {
@@ -180,7 +182,7 @@ impl<'a> Watched<'a> {
         }
     }
 
-    /// Publishes what an open file gives, and remembers what the disk said of it.
+    /// Publishes what an open file gives, and remembers the stamp `seen`. Returns the new ETag.
     fn publish_all_of<F: Read + Drop>(
         &mut self,
         alloc: Global,
@@ -208,8 +210,8 @@ impl<'a> Watched<'a> {
         }
     }
 
-    /// Publishes what an open file gives, unless its publication has the same bytes, and remembers what the disk said of it, also where the
-    /// server refuses it. It isn't remembered where the reason may pass.
+    /// Publishes what an open file gives, unless its publication has the same bytes. It remembers the stamp `seen`, also where the server
+    /// refuses the file, but not where the reason may pass.
     fn publish_other_of<F: Read + Drop>(
         &mut self,
         alloc: Global,
@@ -249,8 +251,8 @@ impl<'a> Watched<'a> {
         }
     }
 
-    /// Reads the file and publishes what it read. An error changes nothing of the server. A file that is too large by its length is refused
-    /// unread.
+    /// Reads the file and publishes what it read. Returns the ETag. Fails with `CantRead`, `NotAFile` or `Refused`, and then the server
+    /// stays as it was. A file that is too large by its length is refused unread.
     pub fn publish<R: Files + Clock + AllocGlobal>(
         &mut self,
         rt: &R,
@@ -261,7 +263,7 @@ impl<'a> Watched<'a> {
         ensures err { OnErr result (server.new ≡ server.old) }
         ensures refused { IfErr result (IsRefusedBy server.old self.old.name.now) }
 
-        // It is watched under its name, and by its path, from then on.
+        // Its name and its path stay.
         ensures name { self.new.name ≡ self.old.name }
         ensures path { self.new.path ≡ self.old.path }
     {
@@ -273,9 +275,9 @@ impl<'a> Watched<'a> {
         self.publish_all_of(rt.alloc(), server, file, seen)
     }
 
-    /// Publishes the file if its bytes changed. One that can't be read, or is refused, keeps its old publication. It isn't read where it is
-    /// too large by its length. Nor is it where the disk says the same of it as when it was last read, unless its bytes are to be compared
-    /// at moment `now`.
+    /// Publishes the file if its bytes changed. Returns the new ETag, or `None` where they didn't. `now` is the moment in milliseconds. The
+    /// file isn't read where the disk says the same of it as when it was last read, unless a comparison is due at `now`. Nor is it read
+    /// where it is too large by its length. Fails with `CantRead`, `NotAFile` or `Refused`, and then the old publication stays.
     pub fn publish_changed<R: Files + Clock + AllocGlobal>(
         &mut self,
         rt: &R,
@@ -288,13 +290,13 @@ impl<'a> Watched<'a> {
         ensures err { OnErr result (server.new ≡ server.old) }
         ensures refused { IfErr result (IsRefusedBy server.old self.old.name.now) }
 
-        // What is published is what an open file gave, unless none was read. One is read where nothing is remembered of it, and where a
-        // comparison is due.
+        // Either the publication is what an open file gave, or no file was read and `None` is returned. A file is read where nothing is
+        // remembered of it, and where a comparison is due.
         ensures given { IfOk result (λ tag. ((tag ≡ None) × IsUnread now self.old self.new)
             ⊎ IsOfFile R.File.remaining self.old.name.now server.new) }
 
-        // A look at a file of which nothing is remembered, and that has no publication, publishes it or fails. What may pass leaves what is
-        // remembered as it was.
+        // `first`: a file of which nothing is remembered, and that has no publication, is published, or the call fails. `again`: where the
+        // reason may pass, what is remembered stays.
         ensures first { seen_of self.old ≡ None → published self.old.name.now server.old.catalogue ≡ None → IfOk result IsSome }
         ensures again { IfErr result (λ why. MayPass why → seen_of self.new ≡ seen_of self.old) }
         ensures name { self.new.name ≡ self.old.name }
@@ -305,7 +307,7 @@ impl<'a> Watched<'a> {
             return Ok(None);
         }
         self.compared = now;
-        // What is remembered is of the file whose bytes are read: the path may lead elsewhere by now.
+        // The stamp is of the file whose bytes are read, since the path may lead elsewhere by now.
         let (file, seen, size) = open(rt, self.path)?;
         if let Some(refusal) = refusal_by_length(self.name.as_bytes(), size) {
             self.seen = seen;

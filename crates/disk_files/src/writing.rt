@@ -1,17 +1,18 @@
-//! A file of the disk that is written whole, or not at all.
+//! A file of the disk that is replaced as a whole, or not at all.
 use std::fs::{File, OpenFile};
 use std::io::Write;
 use std::rt::Files;
 use std::{fs, io};
 
-/// Writes a head and what comes behind it, and nothing else, to what is at a path.
+/// Writes `head` and then `rest`, and nothing else, to what is at `path`.
 fn write_both<R: Files>(rt: &R, path: &str, head: &[u8], rest: &[u8]) -> io::Result<()> {
     let mut file = File::create(rt, path)?;
     file.write_all(head)?;
     file.write_all(rest)
 }
 
-/// Writes them to a new file at a path, until the disk has them: what is there already is neither written nor followed.
+/// Writes `head` and then `rest` to a new file at `path`, and waits until the disk has them. Fails where something is at `path`, which is
+/// neither written nor followed.
 fn write_new<R: Files>(rt: &R, path: &str, head: &[u8], rest: &[u8]) -> io::Result<()> {
     let mut file = File::create_new(rt, path)?;
     file.write_all(head)?;
@@ -19,7 +20,7 @@ fn write_new<R: Files>(rt: &R, path: &str, head: &[u8], rest: &[u8]) -> io::Resu
     file.sync_all()
 }
 
-/// Writes a new file beside another, in the place of what was left there, and renames it to that one.
+/// Writes a new file at `beside`, whatever was left there, and renames it to `path`.
 fn write_beside<R: Files>(
     rt: &R,
     path: &str,
@@ -32,7 +33,7 @@ fn write_beside<R: Files>(
     fs::rename(rt, beside, path)
 }
 
-/// Whether something is at a path that is no plain file: a device, a pipe or a link, as `/dev/stdout` is.
+/// Returns whether something is at a path that is no plain file: a device, a pipe or a link, as `/dev/stdout` is.
 fn is_special<R: Files>(rt: &R, path: &str) -> bool {
     match fs::symlink_metadata(rt, path) {
         Ok(metadata) => !metadata.is_file(),
@@ -40,8 +41,8 @@ fn is_special<R: Files>(rt: &R, path: &str) -> bool {
     }
 }
 
-/// Writes a head and what comes behind it to the file at a path, which is replaced once all of it stands in `PATH.part`, a new file: after
-/// an error it is as it was. What is no plain file is written as it stands.
+/// Replaces the file at `path` by one with `head` and then `rest`, once all of it stands in the new file `PATH.part`. After an error the
+/// old file is as it was. A path that leads to no plain file is written in place.
 pub fn replace_file<R: Files + AllocGlobal>(
     rt: &R,
     path: &str,

@@ -27,13 +27,13 @@ use std::rt::{Clock, Files};
 use text_description::Form;
 use tiff_dir::Pick;
 
-/// How many blocks are asked for early where a URL or a path names the file.
+/// The number of blocks that a request may ask for early where a URL or a path names the file.
 const AHEAD_OF_A_URL: &str = "64";
 
-/// How many requests are made at most of a file of the disk, which loses none.
+/// The most requests for a file of the disk, which loses none.
 const REQUESTS_OF_A_FILE: &str = "65536";
 
-/// What a line asks for, by its numbers.
+/// Holds what a line asks for, with its numbers.
 #[derive(Clone, Copy)]
 struct Numbers {
     asked: Asked,
@@ -99,7 +99,7 @@ fn numbers_of<R: AllocGlobal>(rt: &R, line: &ReadLine<'_>) -> Result<Numbers, Ex
     })
 }
 
-/// What a line wants to be told of exchanges.
+/// Returns what a line wants printed of exchanges.
 fn telling_of(line: &ReadLine<'_>) -> Verbosity {
     match (line.verbose, line.progress) {
         (true, _) => Verbosity::Each,
@@ -108,7 +108,7 @@ fn telling_of(line: &ReadLine<'_>) -> Verbosity {
     }
 }
 
-/// The client of a line's server and name, which keeps so many blocks.
+/// Makes the client for the server and the name of a line. It keeps at most `blocks` blocks. Fails with `RefusedClient`, or with `Memory`.
 fn client_of<R: Eprint + AllocGlobal>(
     rt: &R,
     line: &ReadLine<'_>,
@@ -130,7 +130,7 @@ fn client_of<R: Eprint + AllocGlobal>(
     }
 }
 
-/// What a line asks for, over sockets, which are closed then. Here is the place of blocks that are read ahead.
+/// Returns what a line asks for, read over sockets, which are closed then. The client looks ahead as the numbers say.
 fn text_of_line<'c, R>(
     rt: &R,
     line: &ReadLine<'_>,
@@ -151,7 +151,7 @@ where
     text_of_source(rt, &net, line, numbers, client, socket, is_url)
 }
 
-/// What a line asks for, over a source of answers. A URL may name the file, or it may be one of the disk.
+/// Returns what a line asks for, read over a source of answers. With `is_url` a URL or a path of the disk names the file.
 fn text_of_source<'c, R, P: Pieces + Drop>(
     rt: &R,
     net: &NotedNet<'_, R>,
@@ -175,7 +175,7 @@ where
     exchanges.text(client, &mut noted, numbers.asked)
 }
 
-/// Writes a text to a line's file, or to standard output.
+/// Writes a text to the line's file, or to standard output.
 fn write_text<R>(rt: &R, line: &ReadLine<'_>, text: &Text<'_>) -> Result<(), Exit>
 where
     R: Files + Print + Eprint + AllocGlobal,
@@ -195,7 +195,7 @@ where
     }
 }
 
-/// Reads what a line asks for over sockets, and writes it. A URL may name the file.
+/// Reads what a line asks for over sockets, and writes it. With `is_url` a URL names the file.
 fn run_read<R>(rt: &R, line: &ReadLine<'_>, is_url: bool) -> Result<(), Exit>
 where
     R: Files + Clock + Print + Eprint + AllocGlobal + Net<Stream = TcpStream>,
@@ -206,7 +206,7 @@ where
     write_text(rt, line, &text)
 }
 
-/// Reads what a line asks for of the file of the disk at a path, and writes it.
+/// Reads what a line asks for from the file of the disk at `path`, and writes it.
 fn run_local<R>(rt: &R, line: &ReadLine<'_>, path: &str) -> Result<(), Exit>
 where
     R: Files + Clock + Print + Eprint + AllocGlobal + Net<Stream = TcpStream>,
@@ -221,7 +221,7 @@ where
     write_text(rt, line, &text)
 }
 
-/// Returns the file that a URL names.
+/// Returns the file that a URL names. Fails with `NotAFileUrl`, or with `Memory`.
 fn place_of<'a, R: AllocGlobal>(rt: &R, url: &'a str) -> Result<FileUrl<'a>, Exit> {
     match file_url(rt.alloc(), url) {
         Ok(place) => Ok(place),
@@ -230,7 +230,7 @@ fn place_of<'a, R: AllocGlobal>(rt: &R, url: &'a str) -> Result<FileUrl<'a>, Exi
     }
 }
 
-/// Returns the words that a URL stands for: a server and a name, and `describe` before them where it is alone.
+/// Returns the words that a URL stands for: a server and a name, and `describe` before them with `is_alone`.
 fn words_of_place<'a>(
     alloc: Global,
     place: &'a FileUrl<'a>,
@@ -245,8 +245,8 @@ fn words_of_place<'a>(
     Ok(words)
 }
 
-/// Runs the program on words of which one is a URL, which stands for a server and a name, and for `describe` where it is alone. Its
-/// connection is kept, and it looks ahead.
+/// Runs the program on words of which the one at `index` is a URL, which stands for a server and a name. With `is_alone` it stands for
+/// `describe`, too. The connection is kept, unless the line says otherwise, and the client looks ahead.
 fn run_url<R>(rt: &R, words: &[&str], index: usize, is_alone: bool) -> Result<(), Exit>
 where
     R: Files + Clock + Print + Eprint + AllocGlobal + Net<Stream = TcpStream>,
@@ -261,7 +261,7 @@ where
     explained(run_read(rt, &line, true))
 }
 
-/// Has the fault of a file explained, as the forms do that name a URL or a file of the disk.
+/// Has the fault of a file explained, as where a URL or a path of the disk names it.
 fn explained(ended: Result<(), Exit>) -> Result<(), Exit> {
     match ended {
         Err(Exit::OfFile(fault)) => Err(Exit::Explained(fault)),
@@ -269,8 +269,8 @@ fn explained(ended: Result<(), Exit>) -> Result<(), Exit> {
     }
 }
 
-/// Runs the program on words of which one stands for a server and a name: a URL, or the path of a file of the disk. A word that is
-/// neither is refused as the other forms refuse it.
+/// Runs the program on words of which the one at `index` is a URL, or the path of a file of the disk. It stands for a server and a name. A
+/// word that is neither is refused as the other forms refuse it.
 fn run_single<R>(rt: &R, words: &[&str], index: usize) -> Result<(), Exit>
 where
     R: Files + Clock + Print + Eprint + AllocGlobal + Net<Stream = TcpStream>,
@@ -299,7 +299,7 @@ where
     run_read(rt, &line, false)
 }
 
-/// Runs the program on its words, of which the first is its own name.
+/// Runs the program on its words, of which the first is its own name. Fails with the reason for which the program ends early.
 pub fn run_line<R>(rt: &R, words: &[&str]) -> Result<(), Exit>
 where
     R: Files + Clock + Print + Eprint + AllocGlobal + Net<Stream = TcpStream>,

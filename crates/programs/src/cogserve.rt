@@ -23,7 +23,8 @@ use std::net::{Net, TcpListener, TcpStream};
 use std::num::NonZeroUsize;
 use std::rt::{Clock, Files};
 
-/// Runs the program on its words, of which the first is its own name. The word `help` alone asks for help.
+/// Runs the program on its words, of which the first is its own name. The word `help` alone asks for help. Fails with the reason for which
+/// the program ends early.
 pub fn run_line<R>(rt: &R, words: &[&str]) -> Result<(), Exit>
 where
     R: Files
@@ -86,7 +87,7 @@ where
     ended(&log, served)
 }
 
-/// Logs the error of what ends the program, and makes its fault.
+/// Returns the value of `outcome`. Where it is an error, which ends the program, logs it and fails with its fault.
 pub(crate) fn ended<R: Clock + Eprint + AllocGlobal, T: Drop>(
     log: &AccessLog<'_, R>,
     outcome: Result<T, ServeFilesError<'_>>,
@@ -124,7 +125,7 @@ where
     serve_connections(log, server, files, listener, limits, additions)
 }
 
-/// A server of the words' epoch, without publications.
+/// Makes a server with the epoch of the words, without publications. Fails with `NotANumber`, or with `Memory`.
 fn server_of<R: AllocGlobal>(rt: &R, line: &ServeLine<'_>) -> Result<Server, Exit>
     ensures epoch { IfOk result (λ server. number_32 line.now.epoch.now ≡ Some server.epoch) }
     ensures empty { IfOk result (λ server. (server.count ≡ 0) × (server.catalogue ≡ [])) }
@@ -136,7 +137,7 @@ fn server_of<R: AllocGlobal>(rt: &R, line: &ServeLine<'_>) -> Result<Server, Exi
     Ok(Server::new(rt.alloc(), epoch))
 }
 
-/// What the words say of connections: 256 at once, and a patience of 60 seconds, where they don't.
+/// Returns the limits that the words set for connections. Without words they are 256 connections at once, and a patience of 60 seconds.
 pub(crate) fn limits_of<R: AllocGlobal>(
     rt: &R,
     connections: &str,
@@ -162,7 +163,7 @@ pub(crate) fn limits_of<R: AllocGlobal>(
     })
 }
 
-/// Returns how many milliseconds pass at least before the bytes of a file that seems unchanged are compared again, or `None` with 0.
+/// Returns the least number of milliseconds between two comparisons of the bytes of a file that seems unchanged, or `None` for 0 seconds.
 pub(crate) fn millis_of(seconds: u32) -> Option<u64>
     ensures { result ≡ (if seconds == 0 then None else Some (seconds * 1000)) }
 {
@@ -173,7 +174,7 @@ pub(crate) fn millis_of(seconds: u32) -> Option<u64>
     }
 }
 
-/// How many seconds pass at least before the bytes of files that seem unchanged are compared again; 0 where they never are.
+/// Returns the least number of seconds between two comparisons of the bytes of files that seem unchanged, or 0 where there are none.
 pub(crate) fn verify_of<R: AllocGlobal>(rt: &R, word: Option<&str>) -> Result<u32, Exit>
     ensures ok { IfOk result (λ seconds. verify_number (option_copied word.entry) ≡ Some seconds) }
     ensures err { OnErr result (verify_number (option_copied word.entry) ≡ None) }
@@ -182,7 +183,7 @@ pub(crate) fn verify_of<R: AllocGlobal>(rt: &R, word: Option<&str>) -> Result<u3
     number_or(rt, word, 1, 86_400, 0)
 }
 
-/// The file that a word names as `NAME=PATH`, cut at the first `=`.
+/// Makes the file that a word names as `NAME=PATH`, cut at the first `=`. Fails with `NotAFile`, or with `Memory`.
 fn file_of<'a, R: AllocGlobal>(
     rt: &R,
     word: &'a str,
@@ -199,7 +200,7 @@ fn file_of<'a, R: AllocGlobal>(
     }
 }
 
-/// The files that the words name.
+/// Makes the files that the words name.
 fn files_of<'a, R: AllocGlobal>(
     rt: &R,
     words: &[&'a str],
@@ -216,14 +217,14 @@ fn files_of<'a, R: AllocGlobal>(
     Ok(files)
 }
 
-/// Adds a file behind the others.
+/// Appends a file.
 fn add_file<'a>(files: &mut Vec<Watched<'a>>, file: Watched<'a>) -> Result<(), AllocError>
     ensures { OnOk result (files.new.items ≡ files.old.items ++ file.entry ∷ []) }
 {
     Ok(files.push(file)?)
 }
 
-/// The fault of a file that isn't published.
+/// Returns the fault for a file that isn't published.
 fn exit_of_file<R: AllocGlobal>(rt: &R, file: NotPublished<'_>) -> Result<Exit, AllocError> {
     match file.why {
         WatchError::Refused(PublishError::Memory) => Ok(Exit::Memory),
@@ -237,7 +238,7 @@ fn exit_of_file<R: AllocGlobal>(rt: &R, file: NotPublished<'_>) -> Result<Exit, 
     }
 }
 
-/// The fault of what ends the program.
+/// Returns the fault for what ends the program.
 fn exit_of<R: AllocGlobal>(rt: &R, error: ServeFilesError<'_>) -> Result<Exit, AllocError> {
     match error {
         ServeFilesError::NotPublished(file) => exit_of_file(rt, file),

@@ -23,9 +23,10 @@ use world::{Event, Log, run, run_cut};
 /// The most bytes of a piece: as many as are taken of an answer in pieces.
 const MOST_BYTES: u32 = ANSWER_LIMIT as u32;
 
-/// The log of the events, and whether memory was wanting, which ends it. Answers are handed over whole, or in pieces of so many bytes.
+/// Runs the events, and returns their log. The second value is an error where no memory was left, which ends the log. Answers are handed
+/// over whole, or in pieces of `piece` bytes.
 fn log_of(alloc: Global, events: &[Event], piece: Option<u32>) -> (Log, Result<(), Memory>)
-    // It is of these events, each in its turn, and each report is true of one file.
+    // The log is of these events, each in its turn, and each report is true of one file.
     ensures logged { OnOk result.1 (Runs start [] events.now result.0.entries.items result.0.clients.items) }
     ensures true_reports { OnOk result.1 (AtEach IsTrueEntry start events.now result.0.entries.items) }
     ensures alike { OnOk result.1 (AreAlike result.0.entries.items) }
@@ -41,9 +42,9 @@ fn log_of(alloc: Global, events: &[Event], piece: Option<u32>) -> (Log, Result<(
     (log, ran)
 }
 
-/// Runs a script and writes its log: answers are handed over whole, or in pieces of `piece` bytes. Returns whether memory was wanting for
-/// the run, which ends the log. Fails where the script isn't read, where `out` fails, or where memory is wanting for the text; then
-/// nothing is said of what was written.
+/// Runs a script and writes its log to `out`. Answers are handed over whole, or in pieces of `piece` bytes. The value is an error where no
+/// memory was left for the run, which ends the log. Fails where the script isn't read, where `out` fails, or where no memory is left for
+/// the text. After that nothing is said of what was written.
 pub fn write_log<S: Source, W: Write>(
     alloc: Global,
     text: &[u8],
@@ -61,7 +62,7 @@ pub fn write_log<S: Source, W: Write>(
     Ok(ran)
 }
 
-/// Runs a script and prints its log; want of memory ends it after the log up to there.
+/// Runs a script and prints its log. Where no memory is left, it fails after printing the log up to there.
 fn run_script<R: Print + AllocGlobal, S: Source>(
     rt: &R,
     text: &[u8],
@@ -71,14 +72,15 @@ fn run_script<R: Print + AllocGlobal, S: Source>(
     Ok(write_log(rt.alloc(), text, source, piece, &mut io::writer(rt))??)
 }
 
-/// Runs the stored script.
+/// Runs the stored script, and prints its log.
 pub fn run_stored<R: Print + AllocGlobal>(rt: &R) -> Result<(), Exit> {
     let mut files = Loaded::new(rt.alloc());
     files.add(b"f1.tif", Vec::from_slice(rt.alloc(), &stored::FILE)?)?;
     run_script(rt, stored::SCRIPT, &mut files, None)
 }
 
-/// Runs the script that the program's words name, of which the first is its own name.
+/// Runs the script that the words name, of which the first is the program's own name. Fails with the reason for which the program ends
+/// early.
 pub fn run_line<R: Files + Print + AllocGlobal>(rt: &R, words: &[&str]) -> Result<(), Exit> {
     let line = world_line(rt.alloc(), words)?;
     let piece = match line.pieces {

@@ -1,5 +1,5 @@
-//! The command and its words. It is the program that its own name names, as a link does, or else the one that its first word
-//! names.
+//! The command and its words. It runs the program with its own name, as where a link called it. Else it runs the program that its first
+//! word names.
 ghost use Rattle.std.specs.Prelude.{◌≡◌, MatchResult};
 ghost use Rattle.programs.specs.Status.{EndsWith};
 
@@ -10,7 +10,7 @@ use std::alloc::{AllocError, Global};
 use std::net::{Net, TcpListener, TcpStream};
 use std::rt::{Clock, Files};
 
-/// One of the programs.
+/// Names one of the programs.
 #[derive(Clone, Copy)]
 enum Program {
     Cogread,
@@ -37,7 +37,7 @@ impl Program {
     }
 }
 
-/// The command's own name: the last part of the path by which it was called.
+/// Returns the command's own name: the last part of the path by which it was called.
 fn own_name(words: &[String]) -> &str {
     let path = match words.first() {
         Some(word) => word.as_str(),
@@ -46,10 +46,10 @@ fn own_name(words: &[String]) -> &str {
     path.rsplit('/').next().unwrap_or(path)
 }
 
-/// What the words of a command line name.
+/// Says what the words of a command line name.
 #[derive(Clone, Copy)]
 enum Command<'w> {
-    /// A program, by this word or by the command's own name, and the words behind it.
+    /// A program, by this word or by the command's own name, and the words after it.
     Program(Program, Option<&'w str>, &'w [String]),
     /// The stored script, where there is no word.
     Stored,
@@ -71,7 +71,7 @@ impl<'w> Command<'w> {
         }
     }
 
-    /// The name under which its fault is told.
+    /// Returns the name under which a fault is printed.
     fn name(self) -> &'static str {
         match self {
             Command::Program(program, _, _) => program.name(),
@@ -81,7 +81,7 @@ impl<'w> Command<'w> {
     }
 }
 
-/// What the command's help tells.
+/// Returns the text of the command's help.
 fn help(alloc: Global, name: &str) -> Result<String, AllocError> {
     format!(in alloc;
         "\
@@ -105,12 +105,12 @@ Programs:
   cogworld  Runs a script of events and prints its log
 
 Without a word a stored script is run. A link to the command that has a program's name is that program. The help of
-a program tells its units, defaults, refusals, faults and exit statuses, and an example:
+a program lists its units, defaults, refusals, faults and exit statuses, and an example:
   {name} cogserve --help"
     )
 }
 
-/// The command as it was typed, and the words behind it.
+/// Returns the command as it was typed, and the words after it.
 fn words_of<'a>(
     alloc: Global,
     command: &'a str,
@@ -124,7 +124,7 @@ fn words_of<'a>(
     Ok(words)
 }
 
-/// Runs a program on its words: the command as it was typed, and those behind it.
+/// Runs a program on its words: the command as it was typed, and the words after it.
 fn run_program<R>(rt: &R, program: Program, command: &str, rest: &[String]) -> Result<(), Exit>
 where
     R: Files
@@ -142,7 +142,7 @@ where
     }
 }
 
-/// Runs what the words name, by the command's own name. Without a word the script "one window" is run, with its file from memory.
+/// Runs what the words name. Without a word it runs the stored script, with its file from memory. `name` is the command's own name.
 fn run_command<R>(rt: &R, name: &str, command: Command<'_>) -> Result<(), Exit>
 where
     R: Files
@@ -165,7 +165,7 @@ where
     }
 }
 
-/// Runs the program that the words name, tells its fault, and gives the exit status.
+/// Runs the program that the words name, and prints its fault. Returns the exit status.
 pub fn run<R>(rt: &R, words: &[String]) -> u8
 where
     R: Files
@@ -180,7 +180,7 @@ where
     status_of(rt, command.name(), &ended)
 }
 
-/// The status of a program that has ended, whose fault is told.
+/// Prints the fault of a program that has ended, if there is one, and returns the exit status.
 fn status_of<R: Print + Eprint>(rt: &R, program: &str, ended: &Result<(), Exit>) -> u8
     ensures { MatchResult ended.now (λ _. result ≡ 0) (λ fault. EndsWith fault result) }
 {

@@ -4,7 +4,7 @@ use scripts::{LoadError, Source};
 use std::io::ErrorKind;
 use std::rt::Files;
 
-/// The files of the disk. Relative paths start at the current folder.
+/// Loads the files that a script names from the disk. A relative path starts at the current folder.
 #[derive(Drop)]
 pub struct Disk<'r, R> {
     pub rt: &'r R,

@@ -12,7 +12,7 @@ use std::{fmt, io};
 use text_report::ExplainedFault;
 use tiff_dir::FileFault;
 
-/// Why a program ends early.
+/// Says why a program ends early.
 #[derive(Drop)]
 pub enum Exit {
     /// A word of the command line isn't UTF-8.
@@ -27,10 +27,11 @@ pub enum Exit {
     NotAFile(String),
     /// A word of the command line isn't an origin.
     NotAnOrigin(String),
-    /// Files of these two paths have one name, which is told first.
+    /// Two files have one name, the first text here. Their paths follow.
     OneName(String, String, String),
     /// The clock doesn't say what time it is.
     NoClock,
+    /// The script isn't read, for this reason.
     Script(ScriptError),
     /// The file at this path can't be read.
     CantRead(String),
@@ -42,11 +43,11 @@ pub enum Exit {
     NotAFileUrl(String, FileUrlError),
     /// The report is this fault of the file.
     OfFile(FileFault),
-    /// The report is this fault of the file that a URL names: its line explains it.
+    /// The report is this fault of a file that a URL or a path names. The program's line explains it.
     Explained(FileFault),
     /// No report stands after all requests.
     NoReport,
-    /// The first answer to a URL isn't used for this reason, nor will a later one be.
+    /// The first answer to a URL isn't used for this reason, and no later one is expected to be.
     NotUsed(Why),
     /// The address can't be bound.
     CantListen,
@@ -56,10 +57,11 @@ pub enum Exit {
     CantWait,
     /// The standard output can't be written.
     CantWrite,
-    /// Nobody reads the standard output any more, as behind `| head`. Nothing is told then.
+    /// Nobody reads the standard output any more, as where `head` has ended. Nothing is printed then.
     ReaderGone,
     /// The file at this path can't be written.
     CantWriteFile(String),
+    /// No memory was left.
     Memory,
 }
 
@@ -67,8 +69,8 @@ impl Exit {
     ghost use Rattle.std.specs.Prelude.{is_ok};
     ghost use Rattle.programs.specs.Status.{EndsBy, EndsWith, HasStatus};
 
-    /// The exit status: 0 for help and the version, 1 for files, sockets, publications and memory, 2 for the command
-    /// line and scripts, 3 for a fault of the file that is read, and 4 where there is no report.
+    /// Returns the exit status. It is 0 for help and the version, 1 for files, sockets, publications and memory, and 2 for the command line
+    /// and scripts. It is 3 for a fault of the file that is read, and 4 where there is no report.
     pub fn status(&self) -> u8
         ensures { HasStatus self.now result }
     {
@@ -101,8 +103,8 @@ impl Exit {
         }
     }
 
-    /// Prints the fault's line, as the program of this name tells it, or the help that was asked for, and gives the exit status:
-    /// 1 where help can't be written.
+    /// Prints the fault's line as `program` does, or the help that was asked for. Returns the exit status, which is 1 where that help can't
+    /// be written.
     pub fn tell<R: Print + Eprint>(&self, rt: &R, program: &str) -> u8
         ensures { EndsWith self.now result }
     {
@@ -116,7 +118,7 @@ impl Exit {
         status
     }
 
-    /// The exit status by what printing its line, or the help that was asked for, came to: 1 where that help isn't printed.
+    /// Returns the exit status where printing came to `printed`. It is 1 where the help that was asked for isn't printed.
     fn status_by(&self, printed: &io::Result<()>) -> u8
         ensures { EndsBy (is_ok printed.now) self.now result }
     {
@@ -135,7 +137,7 @@ impl Exit {
     }
 }
 
-/// A fault as the line that a program tells.
+/// Prints a fault as a program's line.
 #[derive(Drop)]
 struct ExitLine<'a> {
     program: &'a str,

@@ -1,4 +1,4 @@
-//! The programs `cogserve`, `cogread` and `cogworld`, as one command whose first word names one of them.
+//! Runs the programs `cogserve`, `cogread` and `cogworld`, as one command whose first word names one of them.
 #![tactic(auto)]
 
 mod cogread;

@@ -13,10 +13,10 @@ use transports::{InMemory, InPieces, server_of_one};
 /// The server that stands for the disk, as a client names it.
 pub const SERVER: &str = "disk";
 
-/// The name of the one file that it has.
+/// The name of the one file of that server.
 pub const NAME: &str = "file";
 
-/// Its epoch: each reading has a server of its own, so the first one will do.
+/// The epoch of that server. Each reading has a server of its own, so the first epoch will do.
 const EPOCH: u32 = 1;
 
 /// Returns whether a path leads to a plain file.
@@ -27,7 +27,7 @@ pub fn is_plain_file<R: Files>(rt: &R, path: &str) -> bool {
     }
 }
 
-/// Makes the fault of a path whose file isn't taken.
+/// Returns the fault for a path whose file the server refuses.
 fn refused<R: AllocGlobal>(rt: &R, refusal: PublishError, path: &str) -> Result<Exit, AllocError> {
     match refusal {
         PublishError::Memory => Ok(Exit::Memory),
@@ -35,7 +35,8 @@ fn refused<R: AllocGlobal>(rt: &R, refusal: PublishError, path: &str) -> Result<
     }
 }
 
-/// Makes a server in memory that has the file at a path, as it is now. Fails where the file can't be read, or couldn't be published.
+/// Makes a server in memory that has the file at a path, as it is now. Fails where the file can't be read or published, or where no memory
+/// is left.
 pub fn server_of_file<R: Files + AllocGlobal>(rt: &R, path: &str) -> Result<Server, Exit> {
     let bytes = match read_file(rt, path) {
         Ok(bytes) => bytes,
@@ -48,7 +49,7 @@ pub fn server_of_file<R: Files + AllocGlobal>(rt: &R, path: &str) -> Result<Serv
     }
 }
 
-/// Makes a source of what that server answers.
+/// Makes a source of that server's answers.
 pub fn source_of<'s>(alloc: Global, server: &'s Server) -> InPieces<'s, InMemory<'s>>
     ensures server { served_state (source_within result) ≡ server.now }
     ensures name { served_name (source_within result) ≡ codes "file" }

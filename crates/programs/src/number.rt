@@ -7,7 +7,7 @@ ghost use Rattle.programs.specs.Number.{IsOfNumber, Names, number_or};
 use crate::exit::Exit;
 use command_lines::number_from;
 
-/// The number that a word writes, from `least` to `greatest`.
+/// Returns the number that a word writes, from `least` to `greatest`. Fails with `NotANumber`, or with `Memory`.
 pub fn number<R: AllocGlobal>(rt: &R, word: &str, least: u32, greatest: u32) -> Result<u32, Exit>
     ensures ok { IfOk result (λ n. number_from least greatest word.now ≡ Some n) }
     ensures err { OnErr result (number_from least greatest word.now ≡ None) }
@@ -21,7 +21,8 @@ pub fn number<R: AllocGlobal>(rt: &R, word: &str, least: u32, greatest: u32) -> 
     }
 }
 
-/// The number of an option, or the default where it is left out.
+/// Returns the number that an option's word writes, from `least` to `greatest`, or `default` where the option is left out. Fails with
+/// `NotANumber`, or with `Memory`.
 pub fn number_or<R: AllocGlobal>(
     rt: &R,
     word: Option<&str>,

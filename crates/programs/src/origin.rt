@@ -7,7 +7,7 @@ use crate::exit::Exit;
 use cog_server::Additions;
 use command_lines::is_origin;
 
-/// Fails with `NotAnOrigin` where a word stands that is no origin.
+/// Fails with `NotAnOrigin` where a word is given that is no origin.
 fn check_origin<R: AllocGlobal>(rt: &R, word: Option<&str>) -> Result<(), Exit>
     ensures ok { OnOk result (IsOriginOrNone (option_copied word.entry)) }
     ensures told { IfErr result (NamesNoOrigin (option_copied word.entry)) }

@@ -19,13 +19,14 @@ use std::alloc::{AllocError, Global};
 use std::net::{Net, TcpListener, TcpStream};
 use std::rt::{Clock, Files};
 
-/// Where the server listens without a word.
+/// Where the server listens, unless a word says it.
 const PLACE: &str = "127.0.0.1:8080";
 
-/// How many connections it serves without a word.
+/// The number of connections that it serves, unless a word says it.
 const CONNECTIONS: &str = "4294967295";
 
-/// Runs the program on a line. It listens first, so that the epoch isn't less than that of a server which had the port before.
+/// Runs the program on a line. It listens before it takes the time for its epoch. So the epoch isn't less than that of a server which had
+/// the port before. Fails with the reason for which the program ends early.
 pub fn run<R>(rt: &R, line: &QuickLine<'_>) -> Result<(), Exit>
 where
     R: Files
@@ -83,7 +84,7 @@ where
     serve_connections(log, server, files, listener, limits, additions)
 }
 
-/// Prints the URL of each file, in a line of its own, where the system says at which address the server listens.
+/// Prints the URL of each file on a line of its own. Prints nothing where the system doesn't give the address at which the server listens.
 fn print_urls<R: Print + Eprint>(
     log: &AccessLog<'_, R>,
     listener: &TcpListener,
@@ -98,7 +99,7 @@ fn print_urls<R: Print + Eprint>(
     Ok(())
 }
 
-/// Returns the epoch that a word gives, if one stands.
+/// Returns the epoch that a word gives, or `None` without a word. Fails with `NotANumber`, or with `Memory`.
 fn given_epoch<R: AllocGlobal>(rt: &R, word: Option<&str>) -> Result<Option<u32>, Exit>
     ensures ok { IfOk result (IsGiven (option_copied word.entry)) }
     ensures kinds { IfErr result IsOfNumber }
@@ -109,7 +110,7 @@ fn given_epoch<R: AllocGlobal>(rt: &R, word: Option<&str>) -> Result<Option<u32>
     }
 }
 
-/// Returns the epoch that is given, or without one the seconds since 1970.
+/// Returns the epoch that is given, or else the seconds since 1970. Fails with `NoClock` where the clock fails.
 fn epoch_of<R: Clock>(rt: &R, given: Option<u32>) -> Result<u32, Exit>
     ensures { IfSome given (λ epoch. result ≡ Ok epoch) }
 {
@@ -133,7 +134,7 @@ fn check_names(alloc: Global, files: &[NamedFile<'_>]) -> Result<(), Exit>
     }
 }
 
-/// Makes the fault of two files that have one name.
+/// Returns the fault for two files that have one name.
 fn one_name(
     alloc: Global,
     first: &NamedFile<'_>,
@@ -148,14 +149,14 @@ fn one_name(
     ))
 }
 
-/// Makes a file as it is watched.
+/// Makes the watched file of a named one. `verify` is in milliseconds.
 fn watched_of<'a>(file: &'a NamedFile<'a>, verify: Option<u64>) -> Watched<'a>
     ensures { IsWatched file.entry.now result }
 {
     Watched::verified(file.name.as_str(), file.path, verify)
 }
 
-/// Makes the files as they are watched.
+/// Makes the watched files of named ones.
 fn watched_files<'a>(
     alloc: Global,
     files: &'a [NamedFile<'a>],
@@ -170,7 +171,7 @@ fn watched_files<'a>(
     Ok(watched)
 }
 
-/// Adds a file that is watched behind the others.
+/// Appends a watched file.
 fn add_watched<'a>(watched: &mut Vec<Watched<'a>>, file: Watched<'a>) -> Result<(), AllocError>
     ensures { OnOk result (watched.new.items ≡ watched.old.items ++ file.entry ∷ []) }
 {

@@ -47,7 +47,7 @@ StopsReading a old new = (mid opened : ClientState) × (query : Query) × IsAske
 
 -- ---- answers that aren't used
 
--- A URL names the file, and at most one exchange was begun, whose answer isn't used for this reason, nor will a later one be.
+-- A URL names the file, and at most one exchange was begun, whose answer isn't used for this reason, which is expected to stay.
 pub record IsUnused {P : Type 0} (is_url : Bool) (before after : ℕ) (noted : Noted P) (why : Why) : Type 0 where
   pub asked : is_url ≡ true
   pub few : StaysWithin 1 before after

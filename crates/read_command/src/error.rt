@@ -3,15 +3,16 @@ use cog_client::{FetchError, Why};
 use extents::Memory;
 use tiff_dir::FileFault;
 
-/// Why there is no text of a file.
+/// Says why there is no text of a file.
 #[derive(Clone, Copy, Debug, PartialEq, Eq)]
 pub enum ReadError {
     /// The report is this fault of the file.
     OfFile(FileFault),
     /// No report stands that has what is asked.
     NoReport,
-    /// The first answer isn't used for this reason, nor will a later one be.
+    /// The first answer isn't used for this reason, and no later one is expected to be.
     NotUsed(Why),
+    /// No memory was left.
     Memory,
 }
 

@@ -1,4 +1,4 @@
-//! How `cogread` reads: what is asked of a file, over any source of answers, and the text that is written of it.
+//! Reads what `cogread` is asked for, over any source of answers, and makes the text that is written of it.
 #![tactic(auto)]
 
 mod error;

@@ -1,4 +1,4 @@
-//! How `cogread` reads: its exchanges, which are told with `--verbose` and drawn with `--progress`, and what is asked of the file.
+//! How `cogread` reads: its exchanges, which `--verbose` prints and `--progress` draws, and what is asked of the file.
 ghost use Rattle.std.specs.Prelude.{◌≡◌, ◌≢◌, ℕ, ◌+◌, ◌<◌, ◌≤◌, ◌^◌, ◌⊎◌, false, true, Err, IfErr, IfOk, IfSome, IsSome, IsSomeAnd, List, None, OnErr, OnOk, Option, Some, min, slice_get};
 ghost use Rattle.tiff_dir.specs.declared.query.Query.TheVariants.{Info as AnInfo};
 ghost use Rattle.http_range.specs.Book.{Book, HasDistinctTags};
@@ -26,9 +26,10 @@ use text_description::{Description, Form};
 use text_report::{FaultSentence, info_text, picture_head};
 use tiff_dir::Pick;
 
-/// What is asked of a file.
+/// Says what is asked of a file.
 #[derive(Clone, Copy, Debug)]
 pub enum Asked {
+    /// The answer to a query.
     Query(Query),
     /// The whole of a level.
     Whole { level: u32 },
@@ -36,29 +37,30 @@ pub enum Asked {
     Description(Form),
 }
 
-/// What is told of exchanges on standard error.
+/// Says what is printed of exchanges on standard error.
 #[derive(Clone, Copy, Debug, PartialEq, Eq)]
 pub enum Verbosity {
+    /// Nothing.
     Nothing,
-    /// A line for each, and why there is no text.
+    /// A line for each exchange, and why there is no text.
     Each,
-    /// How far they have come, as one line that is drawn over itself.
+    /// The progress of the exchanges, as one line that is drawn over itself.
     Progress,
 }
 
-/// How exchanges are made: at most so many in all, and what is told of them.
+/// Holds how exchanges are made: at most `requests` in all, and `verbosity` says what is printed of them.
 #[derive(Drop)]
 pub struct Exchanges<'a, 'r, R> {
     pub rt: &'a R,
     pub net: &'a NotedNet<'r, R>,
     pub requests: u32,
     pub verbosity: Verbosity,
-    /// Whether a URL names the file. The first answer ends the exchanges then, if no later one will be used, and the line of a fault
-    /// explains it, so that nothing else does.
+    /// Whether a URL names the file. Then the first answer ends the exchanges, if no later one is expected to be used. The program's line
+    /// explains a fault then, and so nothing else does.
     pub is_url: bool,
 }
 
-/// How many exchanges of so many are left.
+/// Returns how many of `requests` exchanges are left.
 fn left<P: Pieces>(noted: &Noted<P>, requests: u32) -> u32
     ensures counted { P.count (source_of noted.now) + result < 2 ^ 64 }
     ensures few { StaysWithin requests (P.count (source_of noted.now)) (P.count (source_of noted.now) + result) }
@@ -73,7 +75,7 @@ fn left<P: Pieces>(noted: &Noted<P>, requests: u32) -> u32
 }
 
 impl<R: Eprint + Clock + AllocGlobal> Exchanges<'_, '_, R> {
-    /// Sends what the client asks, until a report stands or no exchange is left. What is all there needs none.
+    /// Makes exchanges until a report stands, or none is left. What is known already needs none.
     fn fetch<P: Pieces>(&self, client: &mut Client, noted: &mut Noted<P>) -> Result<(), FetchError>
         ensures keeps { KeepsReading (P.speaks_for (source_of noted.old)) (P.speaks_for (source_of noted.new)) client.old client.new }
         ensures few { StaysWithin self.now.requests (P.count (source_of noted.old)) (P.count (source_of noted.new)) }
@@ -81,9 +83,9 @@ impl<R: Eprint + Clock + AllocGlobal> Exchanges<'_, '_, R> {
         ensures last { self.now.requests ≤ P.count (source_of noted.old)
             → OnOk result ((request : Option (List ℕ)) × RequestsKeeping client.old request client.new) }
 
-        // It is asked for its request, and what comes of the answer is taken, as often as the source counts, and
-        // nothing else is done to it: what is asked where no exchange is left has no answer. Want of memory came in an
-        // exchange behind some such ones.
+        // `taken`: where an exchange is left, the client makes as many exchanges as the source counts, and nothing else is done to it. Each
+        // is a request and what comes of its answer. `fetches`: in any case it makes some exchanges and nothing else, since a request for
+        // which no exchange is left has no answer. `stops`: where no memory was left, that was in an exchange after some such ones.
         ensures taken { P.count (source_of noted.old) < self.now.requests → OnOk result (FetchesAll
             (TakenOf (P.speaks_for (source_of noted.old)) (P.answers (source_of noted.old)) (P.has_lost (source_of noted.new)))
             (P.count (source_of noted.old)) (P.count (source_of noted.new)) client.old client.new) }
@@ -119,8 +121,8 @@ impl<R: Eprint + Clock + AllocGlobal> Exchanges<'_, '_, R> {
 
         ensures ends { OnOk result (Ends (Whole level) self.now.requests (P.count (source_of noted.new)) client.old client.new) }
 
-        // Queries for what is asked are put one after another, and exchanged for, and nothing else is done to the client; want of memory
-        // came in the exchanges for the last of them.
+        // `queries`: queries for what is asked are opened one after another, with exchanges for each, and nothing else is done to the
+        // client. `stops`: where no memory was left, that was in the exchanges for the last of them.
         ensures queries { OnOk result (ReadsSome (Whole level) client.old client.new) }
         ensures stops { OnErr result (StopsReading (Whole level) client.old client.new) }
     {
@@ -147,7 +149,7 @@ impl<R: Eprint + Clock + AllocGlobal> Exchanges<'_, '_, R> {
         }
     }
 
-    /// Reads what is asked over a source that is noted.
+    /// Reads what is asked over `noted`.
     fn fetch_asked<P: Pieces>(
         &self,
         client: &mut Client,
@@ -160,8 +162,8 @@ impl<R: Eprint + Clock + AllocGlobal> Exchanges<'_, '_, R> {
         ensures few { StaysWithin self.now.requests (P.count (source_of noted.old)) (P.count (source_of noted.new)) }
         ensures ends { OnOk result (Ends asked self.now.requests (P.count (source_of noted.new)) client.old client.new) }
 
-        // Queries for what is asked are put one after another, and exchanged for, and nothing else is done to the client; want of memory
-        // came in the exchanges for the last of them.
+        // `queries`: queries for what is asked are opened one after another, with exchanges for each, and nothing else is done to the
+        // client. `stops`: where no memory was left, that was in the exchanges for the last of them.
         ensures queries { OnOk result (ReadsSome asked client.old client.new) }
         ensures stops { OnErr result (StopsReading asked client.old client.new) }
     {
@@ -174,7 +176,7 @@ impl<R: Eprint + Clock + AllocGlobal> Exchanges<'_, '_, R> {
         self.fetch(client, noted)
     }
 
-    /// Makes the first exchange, if one is allowed, and returns why its answer isn't used, where no later one will be.
+    /// Makes the first exchange, if one is allowed. Returns why its answer isn't used, where no later one is expected to be.
     fn first_refusal<P: Pieces>(
         &self,
         client: &mut Client,
@@ -196,7 +198,8 @@ impl<R: Eprint + Clock + AllocGlobal> Exchanges<'_, '_, R> {
         Ok(noted.lasting_refusal())
     }
 
-    /// Makes the first exchange where a URL names the file. Fails with `NotUsed` where neither its answer nor a later one will be used.
+    /// Makes the first exchange where a URL names the file. Fails with `NotUsed` where its answer isn't used and no later one is expected
+    /// to be.
     fn begin<P: Pieces>(
         &self,
         client: &mut Client,
@@ -217,7 +220,7 @@ impl<R: Eprint + Clock + AllocGlobal> Exchanges<'_, '_, R> {
         }
     }
 
-    /// Reads what is asked over a source that is noted. Where a URL names the file, the first answer ends it, if no later one will be used.
+    /// Reads what is asked over `noted`. Where a URL names the file, the first answer ends it, if no later one is expected to be used.
     fn fetch_used<P: Pieces>(
         &self,
         client: &mut Client,
@@ -238,8 +241,10 @@ impl<R: Eprint + Clock + AllocGlobal> Exchanges<'_, '_, R> {
         Ok(())
     }
 
-    /// Reads what is asked over a source that is noted, and gives its text: a picture, whose samples the client lends, what Info tells,
-    /// or a description. What is told of each exchange goes to standard error, and so does why there is no text.
+    /// Reads what is asked over `noted`, and returns its text: a picture, whose samples the client lends, the lines of Info, or a
+    /// description. It prints exchanges, and why there is no text, as `verbosity` says. Fails with `OfFile` where the report is a fault,
+    /// and with `NoReport` where no report has what is asked. Fails with `NotUsed` where a URL names the file and the first answer can't be
+    /// used, and with `Memory` where no memory is left.
     pub fn text<'c, P: Pieces>(
         &self,
         client: &'c mut Client,
@@ -249,12 +254,13 @@ impl<R: Eprint + Clock + AllocGlobal> Exchanges<'_, '_, R> {
         // What is written is true of one publication of each book that the client reads and the source speaks for.
         ensures truth { (book : Book)
             → ReadsBook (P.speaks_for (source_of noted.old)) client.old book → WritesTrue (name_of client.old) book asked result }
-        // So many exchanges are made at most, and that no report stands is told only after them all, but of a whole level, which is
-        // read by several queries.
+        // The source counts at most `requests` exchanges, unless it counted more before. `NoReport` is returned only after all of them, but
+        // for a whole level, which is read by several queries.
         ensures few { StaysWithin self.now.requests (P.count (source_of noted.old)) (P.count (source_of noted.new)) }
         ensures none { ((level : ℕ) → asked ≢ Whole level) → result ≡ Err NoReport
             → self.now.requests ≤ P.count (source_of noted.new) }
-        // That an answer isn't used is told only where a URL names the file, after one exchange at most, of the answer that came then.
+        // `NotUsed` is returned only where a URL names the file, after one exchange at most, and gives the reason of the answer that came
+        // then.
         ensures refused { (why : Why) → result ≡ Err (NotUsed why)
             → IsUnused self.now.is_url (P.count (source_of noted.old)) (P.count (source_of noted.new)) noted.new why }
     {
@@ -264,7 +270,8 @@ impl<R: Eprint + Clock + AllocGlobal> Exchanges<'_, '_, R> {
         self.text_at(client, asked)
     }
 
-    /// The text of the report that stands. That there is none is told only where none stands, or of a whole level one that tells its sides.
+    /// Returns the text of the report that stands. Fails with `NoReport` only where none stands, or where it has the sides of a level that
+    /// is asked for as a whole.
     fn text_at<'c>(&self, client: &'c Client, asked: Asked) -> Result<Text<'c>, ReadError>
         ensures written { IsOfFile result
             → (r : Report) × Stands client.now (Some r) × IsWritten asked r.tag r.outcome result }
@@ -280,7 +287,7 @@ impl<R: Eprint + Clock + AllocGlobal> Exchanges<'_, '_, R> {
         self.text_of(client, report, asked)
     }
 
-    /// Tells that no report stands.
+    /// Prints that no report stands, where each exchange is printed.
     fn tell_no_report(&self) {
         if self.verbosity == Verbosity::Each {
             let requests = self.requests;
@@ -290,7 +297,7 @@ impl<R: Eprint + Clock + AllocGlobal> Exchanges<'_, '_, R> {
         }
     }
 
-    /// The text of a client's report. A fault of the file is told as one.
+    /// Returns the text of a client's report. Fails with `OfFile` where it is a fault, and prints that.
     fn text_of<'c>(
         &self,
         client: &Client,
@@ -327,15 +334,15 @@ impl<R: Eprint + Clock + AllocGlobal> Exchanges<'_, '_, R> {
     }
 }
 
-/// The sides of a level; of one that isn't there, those of one pixel.
+/// Returns the columns and rows of a level, or of one pixel where there is no such level.
 fn level_sides(info: &Info, level: u32) -> (u32, u32)
     ensures { IfSome (slice_get info.now.sides.items level) (λ sides. sides ≡ result) }
 {
     info.sides.get(level as usize).copied().unwrap_or((1, 1))
 }
 
-/// The tag that a client has told the sides of a file under, and the window that is the whole of a level. A level that isn't there has
-/// a window that isn't, either.
+/// Returns the ETag of a client's report of Info, and the window that is the whole of a level by that report. Where the level isn't there,
+/// the window isn't, either. Returns `None` where no report of Info stands.
 #[tactic(auto, using(crate::proofs::WholeLemmas::whole_told))]
 fn whole_of(client: &Client, level: u32) -> Option<(Tag, Query)>
     ensures whole { (book : Book) → HasDistinctTags book → ClientAgrees client.now book
@@ -355,7 +362,7 @@ fn whole_of(client: &Client, level: u32) -> Option<(Tag, Query)>
     Some((report.tag.copy(), Query::Window { x, y, w, h, pick }))
 }
 
-/// Whether a client's report stands under another tag.
+/// Returns whether a client's report has another ETag than `tag`. It has none where no report stands.
 fn has_another_tag(client: &Client, tag: &Tag) -> bool
     ensures same { result ≡ false → IfSome (report_of client.now) (λ r. r.tag ≡ tag.now) }
     ensures other { result ≡ true → IsSomeAnd (report_of client.now) (λ r. r.tag ≢ tag.now) }

@@ -5,8 +5,8 @@ ghost use Rattle.std.specs.Io.KnownBytes.{Appends};
 use std::io;
 use std::io::Write;
 
-/// What `cogread` writes: a text, and behind it the samples of the window, where the text is the head of its picture. They are the
-/// client's.
+/// Holds what `cogread` writes: a text, and after it the samples of a window, where the text is the head of its picture. The samples are
+/// the client's.
 #[derive(Drop)]
 pub struct Text<'c> {
     pub head: Vec<u8>,
@@ -14,7 +14,7 @@ pub struct Text<'c> {
 }
 
 impl Text<'_> {
-    /// Writes the head, and behind it the samples.
+    /// Writes the head, and after it the samples.
     pub fn write_to<W: Write>(&self, out: &mut W) -> io::Result<()>
         ensures { OnOk result (Appends (W.contents out.old) (W.contents out.new) (self.now.head.items ++ self.now.samples.now)) }
     {
@@ -24,7 +24,7 @@ impl Text<'_> {
 }
 
 impl From<Vec<u8>> for Text<'_> {
-    /// A text that is no picture.
+    /// Makes a text without samples.
     fn from(text: Vec<u8>) -> Self
         ensures head { result.head ≡ text }
         ensures samples { result.samples.now ≡ [] }

@@ -1,4 +1,4 @@
-//! Scripts, which list the events of a world line by line, and the text of its log.
+//! Reads scripts, which list the events of a world line by line, and writes the text of its log.
 //!
 //! The forms of the lines are in `docs/SCRIPTS.md`.
 #![tactic(auto)]

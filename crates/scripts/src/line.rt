@@ -15,21 +15,25 @@ use std::alloc::{AllocError, AllocFailed, Global};
 use tiff_dir::{Pick, Query};
 use world::Event;
 
-/// Why a script isn't read. Lines are counted from 1.
+/// Says why a script isn't read. Lines are counted from 1.
 #[derive(Clone, Copy, Debug, PartialEq, Eq)]
 pub enum ScriptError {
     /// This line is no event.
     NotAnEvent(usize),
     /// The file that this line names can't be read.
     CantRead(usize),
+    /// No memory was left.
     Memory,
 }
 
-/// Why a line isn't read.
+/// Says why a line isn't read.
 #[derive(Clone, Copy, Debug, PartialEq, Eq)]
 enum LineError {
+    /// The line has no form of `docs/SCRIPTS.md`.
     NotAnEvent,
+    /// The file that the line names can't be read.
     CantRead,
+    /// No memory was left.
     Memory,
 }
 
@@ -95,7 +99,7 @@ impl<T: Drop> From<AllocFailed<T>> for ScriptError {
     }
 }
 
-/// A number that has to be one.
+/// Returns the number that a word writes. Fails with `NotAnEvent` where it writes none.
 fn wanted(word: &[u8]) -> Result<u32, LineError>
     ensures read { Reads (λ n. number word.now ≡ Some n) result }
     ensures told { IfErr result (λ error. error ≡ NotAnEvent) }
@@ -103,7 +107,7 @@ fn wanted(word: &[u8]) -> Result<u32, LineError>
     number(word).ok_or(LineError::NotAnEvent)
 }
 
-/// The number that a line has alone behind its first word.
+/// Returns the number that follows the first word of a line. Fails with `NotAnEvent` where anything else follows it.
 fn only_number(rest: &[&[u8]]) -> Result<u32, LineError>
     ensures read { Reads (IsOnlyNumber (texts rest.now)) result }
     ensures told { IfErr result (λ error. error ≡ NotAnEvent) }
@@ -114,7 +118,7 @@ fn only_number(rest: &[&[u8]]) -> Result<u32, LineError>
     }
 }
 
-/// What `publish` has behind it: a name, and the path of a file.
+/// Returns the event of `publish`, which a name and the path of a file follow.
 fn publication<S: Source>(alloc: Global, rest: &[&[u8]], source: &mut S) -> Result<Event, LineError>
     ensures event { ReadsWords (S.finds source.old) (codes "publish" ∷ texts rest.now) result }
     ensures kept { FindsTheSame (S.finds source.old) (S.finds source.new) }
@@ -128,7 +132,7 @@ fn publication<S: Source>(alloc: Global, rest: &[&[u8]], source: &mut S) -> Resu
     })
 }
 
-/// What `client` has behind it: a name, and how many blocks its cache has.
+/// Returns the event of `client`, which a name and the number of blocks of its cache follow.
 fn new_client(alloc: Global, rest: &[&[u8]]) -> Result<Event, LineError>
     ensures { Reads (IsEvent NoFile (codes "client" ∷ texts rest.now)) result }
 {
@@ -141,7 +145,7 @@ fn new_client(alloc: Global, rest: &[&[u8]]) -> Result<Event, LineError>
     })
 }
 
-/// The level that `level N` or `columns C` picks.
+/// Returns the level that `level N` or `columns C` picks.
 fn pick_of(kind: &[u8], word: &[u8]) -> Result<Pick, LineError>
     ensures read { Reads (IsPick kind.now word.now) result }
     ensures told { IfErr result (λ error. error ≡ NotAnEvent) }
@@ -153,7 +157,7 @@ fn pick_of(kind: &[u8], word: &[u8]) -> Result<Pick, LineError>
     }
 }
 
-/// A window by its sides, of the level that is picked.
+/// Returns the window with these sides, of the level that `pick` picks.
 fn window(pick: Pick, sides: &[&[u8]; 4]) -> Result<Query, LineError>
     ensures read { Reads (IsWindow pick (texts sides.now)) result }
     ensures told { IfErr result (λ error. error ≡ NotAnEvent) }
@@ -168,7 +172,7 @@ fn window(pick: Pick, sides: &[&[u8]; 4]) -> Result<Query, LineError>
     })
 }
 
-/// A query: a window of the level that is picked, or `info`.
+/// Returns the query of words: a window of the level that is picked, or `info`.
 fn query_of(words: &[&[u8]]) -> Result<Query, LineError>
     ensures read { Reads (IsQuery (texts words.now)) result }
     ensures told { IfErr result (λ error. error ≡ NotAnEvent) }
@@ -180,7 +184,7 @@ fn query_of(words: &[&[u8]]) -> Result<Query, LineError>
     }
 }
 
-/// What `open` has behind it: a client and its query.
+/// Returns the event of `open`, which a client and its query follow.
 fn opening(rest: &[&[u8]]) -> Result<Event, LineError>
     ensures read { Reads (IsEvent NoFile (codes "open" ∷ texts rest.now)) result }
     ensures told { IfErr result (λ error. error ≡ NotAnEvent) }
@@ -194,7 +198,7 @@ fn opening(rest: &[&[u8]]) -> Result<Event, LineError>
     })
 }
 
-/// The bytes of hexadecimal digits, two each, in either case.
+/// Returns the bytes of hexadecimal digits, two each, in either case.
 fn bytes_of(alloc: Global, digits: &[u8]) -> Result<Vec<u8>, LineError>
     ensures { Reads (λ bytes. decode_of digits.now ≡ Ok bytes.items) result }
 {
@@ -205,7 +209,7 @@ fn bytes_of(alloc: Global, digits: &[u8]) -> Result<Vec<u8>, LineError>
     }
 }
 
-/// What `ask` has behind it: a message in hexadecimal digits.
+/// Returns the event of `ask`, which a message in hexadecimal digits follows.
 fn message(alloc: Global, rest: &[&[u8]]) -> Result<Event, LineError>
     ensures { Reads (IsEvent NoFile (codes "ask" ∷ texts rest.now)) result }
 {
@@ -215,7 +219,7 @@ fn message(alloc: Global, rest: &[&[u8]]) -> Result<Event, LineError>
     Ok(Event::Ask(bytes_of(alloc, digits)?))
 }
 
-/// How many bytes of an answer are delivered: `-` stands for all.
+/// Returns how many bytes of an answer are delivered, or `None` for all of them, which `-` stands for.
 fn cut_of(word: &[u8]) -> Result<Option<u32>, LineError>
     ensures read { Reads (λ n. cut word.now ≡ Some n) result }
     ensures told { IfErr result (λ error. error ≡ NotAnEvent) }
@@ -226,7 +230,7 @@ fn cut_of(word: &[u8]) -> Result<Option<u32>, LineError>
     }
 }
 
-/// What `deliver` has behind it: a client, an answer, and how much of it comes.
+/// Returns the event of `deliver`, which a client, an answer, and the number of its bytes that come follow.
 fn delivery(rest: &[&[u8]]) -> Result<Event, LineError>
     ensures read { Reads (IsEvent NoFile (codes "deliver" ∷ texts rest.now)) result }
     ensures told { IfErr result (λ error. error ≡ NotAnEvent) }
@@ -241,7 +245,7 @@ fn delivery(rest: &[&[u8]]) -> Result<Event, LineError>
     })
 }
 
-/// The event of a line that names no file, by its first word.
+/// Returns the event of a line that names no file, by its first word.
 fn event_without_file(alloc: Global, verb: Verb, rest: &[&[u8]]) -> Result<Event, LineError>
     ensures { Reads (IsEvent NoFile (word_of verb ∷ texts rest.now)) result }
 {
@@ -258,7 +262,7 @@ fn event_without_file(alloc: Global, verb: Verb, rest: &[&[u8]]) -> Result<Event
     }
 }
 
-/// The event of a line of these words.
+/// Returns the event of a line of these words.
 fn event_of<S: Source>(alloc: Global, words: &[&[u8]], source: &mut S) -> Result<Event, LineError>
     ensures event { ReadsWords (S.finds source.old) (texts words.now) result }
     ensures kept { FindsTheSame (S.finds source.old) (S.finds source.new) }
@@ -275,21 +279,21 @@ fn event_of<S: Source>(alloc: Global, words: &[&[u8]], source: &mut S) -> Result
     }
 }
 
-/// The parts of a text, which is cut at each byte `end`.
+/// Returns the parts of a text, which is cut at each byte `end`.
 fn parts_of(alloc: Global, text: &[u8], end: u8) -> Result<Vec<&[u8]>, AllocError>
     ensures { IfOk result (λ parts. texts parts.items ≡ slice_split (λ b. b == end) text.now) }
 {
     text.split(|b| *b == end).collect(alloc)
 }
 
-/// Whether no word is empty.
+/// Returns whether no word is empty.
 fn are_filled(words: &[&[u8]]) -> bool
     ensures { result ≡ are_filled (texts words.now) }
 {
     words.iter().all(|word| !word.is_empty())
 }
 
-/// The event of a line that isn't passed over.
+/// Returns the event of a line that isn't passed over.
 fn read_line<S: Source>(alloc: Global, line: &[u8], source: &mut S) -> Result<Event, LineError>
     ensures event { ReadsLine (S.finds source.old) line.now result }
     ensures kept { FindsTheSame (S.finds source.old) (S.finds source.new) }
@@ -301,15 +305,16 @@ fn read_line<S: Source>(alloc: Global, line: &[u8], source: &mut S) -> Result<Ev
     event_of(alloc, &words, source)
 }
 
-/// Whether a line isn't passed over: it isn't empty, and doesn't begin with `#`.
+/// Returns whether a line isn't passed over: it isn't empty, and doesn't begin with `#`.
 fn is_read(line: &[u8]) -> bool
     ensures { result ≡ is_read line.now }
 {
     !line.is_empty() && !line.starts_with(b"#")
 }
 
-/// The events of a script, whose files come from `source`. Of the lines that aren't read the first is told: NotAnEvent where it
-/// has no form of `docs/SCRIPTS.md`, CantRead where its file can't be loaded.
+/// Returns the events of a script, whose files come from `source`. Fails for the first line that isn't read. That is with `NotAnEvent`
+/// where it has no form of `docs/SCRIPTS.md`, and with `CantRead` where its file can't be loaded. Fails with `Memory` where no memory is
+/// left.
 ///
 /// ```
 /// let events = script(rt.alloc(), b"epoch 1\nclient a 66\n", &mut Loaded::new(rt.alloc()))?;

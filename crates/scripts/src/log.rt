@@ -14,7 +14,7 @@ use world::{
     Outcome, Report, Window,
 };
 
-/// The text of a log: a line for each entry, and one more for its report (`docs/SCRIPTS.md`).
+/// Returns the text of a log: a line for each entry, and one more for its report (`docs/SCRIPTS.md`). Fails where no memory is left.
 pub fn log_text(alloc: Global, log: &Log) -> Result<Vec<u8>, Memory>
     ensures { IfOk result (λ text. text.items ≡ text_of_log log.now.entries.items) }
 {
@@ -36,7 +36,7 @@ fn push_entry(text: &mut LogLines, entry: &Entry) -> Result<(), AllocError>
     }
 }
 
-/// The client that the event was about.
+/// Returns the client that an event was about, if it was about one.
 fn client_of(effect: &Effect) -> Option<u32>
     ensures { result ≡ client_of effect.now }
 {
@@ -81,7 +81,7 @@ fn push_effect(text: &mut LogLines, effect: &Effect) -> Result<(), AllocError>
     }
 }
 
-/// The first word of a line, and its number.
+/// Appends the first word of a line, and its number.
 fn begin_counted<I: Integer>(text: &mut LogLines, word: &[u8], number: I) -> Result<(), AllocError>
     ensures { OnOk result (text.new.bytes.items ≡ text.old.bytes.items ++ spaced (word.now ∷ I.text number ∷ [])) }
 {
@@ -89,7 +89,7 @@ fn begin_counted<I: Integer>(text: &mut LogLines, word: &[u8], number: I) -> Res
     text.number(number)
 }
 
-/// A further word, and its number.
+/// Appends a further word, and its number.
 fn push_counted<I: Integer>(text: &mut LogLines, word: &[u8], number: I) -> Result<(), AllocError>
     ensures { OnOk result (text.new.bytes.items ≡ text.old.bytes.items ++ further (word.now ∷ I.text number ∷ [])) }
 {
@@ -97,7 +97,7 @@ fn push_counted<I: Integer>(text: &mut LogLines, word: &[u8], number: I) -> Resu
     text.number(number)
 }
 
-/// The line of a client that has nothing to send.
+/// Appends the line of a client that has nothing to send.
 fn push_nothing(text: &mut LogLines, word: &[u8], client: u32) -> Result<(), AllocError>
     ensures { OnOk result (text.new.bytes.items ≡ text.old.bytes.items ++ spaced (word.now ∷ decimal client ∷ codes "nothing" ∷ [])) }
 {
@@ -105,7 +105,7 @@ fn push_nothing(text: &mut LogLines, word: &[u8], client: u32) -> Result<(), All
     text.word(b"nothing")
 }
 
-/// A number, where it is there.
+/// Appends a number, if there is one.
 fn push_number_if(text: &mut LogLines, number: Option<u16>) -> Result<(), AllocError>
     ensures { OnOk result (text.new.bytes.items ≡ text.old.bytes.items ++ further (number_if number)) }
 {
@@ -115,7 +115,7 @@ fn push_number_if(text: &mut LogLines, number: Option<u16>) -> Result<(), AllocE
     }
 }
 
-/// An answer's number, its status and how many bytes of body it has.
+/// Appends an answer's number, its status code, and the number of bytes of its body.
 fn push_numbers(text: &mut LogLines, number: usize, answer: &Answer) -> Result<(), AllocError>
     ensures { OnOk result (text.new.bytes.items
         ≡ text.old.bytes.items ++ further (decimal number ∷ decimal answer.now.status ∷ decimal answer.now.body ∷ [])) }
@@ -125,7 +125,7 @@ fn push_numbers(text: &mut LogLines, number: usize, answer: &Answer) -> Result<(
     text.number(answer.body)
 }
 
-/// An answer as further words.
+/// Appends an answer as further words.
 fn push_answer(text: &mut LogLines, number: usize, answer: &Answer) -> Result<(), AllocError>
     ensures { OnOk result (text.new.bytes.items ≡ text.old.bytes.items ++ further (answer_words number answer.now)) }
 {
@@ -133,7 +133,7 @@ fn push_answer(text: &mut LogLines, number: usize, answer: &Answer) -> Result<()
     push_numbers(text, number, answer)
 }
 
-/// The span that a client asked for, the tag of its condition, and the answer.
+/// Appends the byte range that a client asked for, the ETag of its condition, and the answer.
 fn push_asked(text: &mut LogLines, asked: &AnsweredRequest) -> Result<(), AllocError>
     ensures { OnOk result (text.new.bytes.items ≡ text.old.bytes.items ++ spaced (asked_words asked.now)) }
 {
@@ -143,7 +143,7 @@ fn push_asked(text: &mut LogLines, asked: &AnsweredRequest) -> Result<(), AllocE
     push_answer(text, asked.number, &asked.answer)
 }
 
-/// The first and the last position, with `-` between them.
+/// Appends the first and the last position, with `-` between them.
 fn push_span(text: &mut LogLines, span: Span) -> Result<(), AllocError>
     ensures { OnOk result (text.new.bytes.items ≡ text.old.bytes.items ++ further (span_word span ∷ [])) }
 {
@@ -152,7 +152,7 @@ fn push_span(text: &mut LogLines, span: Span) -> Result<(), AllocError>
     text.push(Buffer::new().format(span.last).as_bytes())
 }
 
-/// The tag, or `-` without one.
+/// Appends the ETag, or `-` without one.
 fn push_tag(text: &mut LogLines, tag: &Option<Tag>) -> Result<(), AllocError>
     ensures { OnOk result (text.new.bytes.items ≡ text.old.bytes.items ++ further (tag_word tag.now ∷ [])) }
 {
@@ -162,7 +162,7 @@ fn push_tag(text: &mut LogLines, tag: &Option<Tag>) -> Result<(), AllocError>
     }
 }
 
-/// The tag that a client checked, the answer, and what it says.
+/// Appends the ETag that a client checked, the answer, and what it says.
 fn push_checked(text: &mut LogLines, check: &AnsweredCheck) -> Result<(), AllocError>
     ensures { OnOk result (text.new.bytes.items ≡ text.old.bytes.items ++ spaced (effect_words (Effect.Checked check.now))) }
 {
@@ -195,7 +195,7 @@ fn push_delivered(text: &mut LogLines, delivered: Delivered) -> Result<(), Alloc
     }
 }
 
-/// The status for which an answer is ignored.
+/// Returns the status code for which an answer is ignored, if that is the reason.
 fn status_of(ignored: Ignored) -> Option<u16>
     ensures { result ≡ status_of ignored }
 {
@@ -205,7 +205,7 @@ fn status_of(ignored: Ignored) -> Option<u16>
     }
 }
 
-/// The line of a report.
+/// Appends the line of a report.
 fn push_report(text: &mut LogLines, client: u32, report: &Report) -> Result<(), AllocError>
     ensures { OnOk result (text.new.bytes.items ≡ text.old.bytes.items ++ line (report_words client report.now)) }
 {
@@ -225,7 +225,7 @@ fn push_outcome(text: &mut LogLines, outcome: &Outcome) -> Result<(), AllocError
     }
 }
 
-/// A window's sides, the samples of a pixel, and the bytes of its samples.
+/// Appends a window's sides, the samples of a pixel, and the bytes of its samples.
 fn push_window(text: &mut LogLines, window: &Window) -> Result<(), AllocError>
     ensures { OnOk result (text.new.bytes.items ≡ text.old.bytes.items ++ further (outcome_words (Outcome.Window window.now))) }
 {
@@ -235,7 +235,7 @@ fn push_window(text: &mut LogLines, window: &Window) -> Result<(), AllocError>
     text.hexadecimal(&window.pixels)
 }
 
-/// How many levels and keys there are.
+/// Appends the numbers of levels and of keys.
 fn push_info(text: &mut LogLines, info: &Info) -> Result<(), AllocError>
     ensures { OnOk result (text.new.bytes.items ≡ text.old.bytes.items ++ further (outcome_words (Outcome.Info info.now))) }
 {
@@ -243,7 +243,7 @@ fn push_info(text: &mut LogLines, info: &Info) -> Result<(), AllocError>
     text.number(info.geo.keys.len())
 }
 
-/// A fault's number, and the field that it is about.
+/// Appends a fault's number, and the tag of the field that it is about.
 fn push_fault(text: &mut LogLines, fault: FileFault) -> Result<(), AllocError>
     ensures { OnOk result (text.new.bytes.items ≡ text.old.bytes.items ++ further (outcome_words (Outcome.Fault fault))) }
 {

@@ -5,7 +5,7 @@ ghost use Rattle.hex.specs.Hex.{encode_lower};
 use itoa::{Buffer, Integer};
 use std::alloc::{AllocError, Global};
 
-/// A text of lines, whose words are separated by one space.
+/// Holds lines of words, which are separated by one space.
 #[derive(Drop)]
 pub struct LogLines {
     alloc: Global,
@@ -13,6 +13,7 @@ pub struct LogLines {
 }
 
 impl LogLines {
+    /// Makes a text without lines.
     pub fn new(alloc: Global) -> LogLines
         ensures { result.bytes.items ≡ [] }
     {
@@ -22,20 +23,21 @@ impl LogLines {
         }
     }
 
+    /// Returns the bytes of the text.
     pub fn into_bytes(self) -> Vec<u8>
         ensures { result ≡ self.bytes }
     {
         self.bytes
     }
 
-    /// Appends to the line.
+    /// Appends bytes to the line.
     pub fn push(&mut self, bytes: &[u8]) -> Result<(), AllocError>
         ensures { OnOk result (self.new.bytes.items ≡ self.old.bytes.items ++ bytes.now) }
     {
         self.bytes.extend_from_slice(bytes)
     }
 
-    /// A further word of the line.
+    /// Appends a further word to the line.
     pub fn word(&mut self, word: &[u8]) -> Result<(), AllocError>
         ensures { OnOk result (self.new.bytes.items ≡ self.old.bytes.items ++ codes " " ++ word.now) }
     {
@@ -43,14 +45,14 @@ impl LogLines {
         self.push(word)
     }
 
-    /// A number as a further word.
+    /// Appends a number to the line, as a further word.
     pub fn number<I: Integer>(&mut self, number: I) -> Result<(), AllocError>
         ensures { OnOk result (self.new.bytes.items ≡ self.old.bytes.items ++ codes " " ++ I.text number) }
     {
         self.word(Buffer::new().format(number).as_bytes())
     }
 
-    /// Bytes as a further word of lower case hexadecimal digits.
+    /// Appends bytes to the line, as a further word of lower case hexadecimal digits.
     pub fn hexadecimal(&mut self, bytes: &[u8]) -> Result<(), AllocError>
         ensures { OnOk result (self.new.bytes.items ≡ self.old.bytes.items ++ codes " " ++ encode_lower bytes.now) }
     {
@@ -58,6 +60,7 @@ impl LogLines {
         self.word(digits.as_bytes())
     }
 
+    /// Ends the line.
     pub fn end_line(&mut self) -> Result<(), AllocError>
         ensures { OnOk result (self.new.bytes.items ≡ self.old.bytes.items ++ 10 ∷ []) }
     {

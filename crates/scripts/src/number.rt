@@ -2,7 +2,7 @@
 ghost use Rattle.std.specs.Prelude.{◌≡◌};
 ghost use Rattle.scripts.specs.Script.{number};
 
-/// A number in decimal digits, as many as there are, up to 4,294,967,295.
+/// Returns the number that a word of decimal digits writes, however many they are, or `None` above 4,294,967,295.
 pub fn number(word: &[u8]) -> Option<u32>
     ensures { result ≡ number word.now }
 {

@@ -2,10 +2,12 @@
 use http_range::Memory;
 use std::alloc::{AllocError, Global};
 
-/// Why a file isn't loaded.
+/// Says why a file isn't loaded.
 #[derive(Clone, Copy, Debug, PartialEq, Eq)]
 pub enum LoadError {
+    /// The file can't be read.
     CantRead,
+    /// No memory was left.
     Memory,
 }
 
@@ -20,29 +22,30 @@ impl From<AllocError> for LoadError {
     }
 }
 
-/// What loads the files that a script names.
+/// Loads the files that a script names.
 pub trait Source {
     ghost use Rattle.std.specs.Prelude.{◌≡◌, ℕ, List, Option, ⊤, IfOk};
     ghost use Rattle.scripts.specs.Script.{FindsTheSame};
 
-    /// What it may answer at a path: the bytes of a file, or `None` where it can't be read. Where an `impl` doesn't say, any answer.
+    /// What it may return for a path: the bytes of a file, or `None` where it can't be read. An `impl` that doesn't say it may return
+    /// anything.
     ghost finds: { Self → List ℕ → Option (List ℕ) → Type 0 } = { λ _ _ _. ⊤ };
 
-    /// The bytes of the file at a path.
+    /// Returns the bytes of the file at a path. Fails with `CantRead` where it can't be read, or with `Memory`.
     fn load(&mut self, path: &[u8]) -> Result<Vec<u8>, LoadError>
         ensures ok { IfOk result (λ bytes. finds self.old path.now (Some bytes.items)) }
         ensures cant_read { result ≡ Err LoadError.CantRead → finds self.old path.now None }
         ensures kept { FindsTheSame (finds self.old) (finds self.new) };
 }
 
-/// A file in memory.
+/// Holds a file in memory, with its path.
 #[derive(Drop)]
 struct LoadedFile {
     path: Vec<u8>,
     bytes: Vec<u8>,
 }
 
-/// Files in memory, by their paths.
+/// Holds files in memory, by their paths.
 #[derive(Drop)]
 pub struct Loaded {
     alloc: Global,
@@ -53,6 +56,7 @@ impl Loaded {
     ghost use Rattle.std.specs.Prelude.{◌≡◌, ℕ, List, OnErr, OnOk};
     ghost use Rattle.scripts.specs.Files.{HasTheSame, IsAdded, file_at};
 
+    /// Makes a source without files.
     pub fn new(alloc: Global) -> Loaded
         ensures { (path : List ℕ) → file_at result path ≡ None }
     {
@@ -62,7 +66,7 @@ impl Loaded {
         }
     }
 
-    /// Adds a file. Of several files of one path the first is loaded.
+    /// Adds a file. Of several files of one path the first is loaded. Fails where no memory is left, and then the files stay.
     pub fn add(&mut self, path: &[u8], bytes: Vec<u8>) -> Result<(), Memory>
         ensures ok { OnOk result (IsAdded self.old self.new path.now bytes.items) }
         ensures err { OnErr result (HasTheSame self.old self.new) }

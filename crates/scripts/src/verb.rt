@@ -2,7 +2,7 @@
 ghost use Rattle.std.specs.Prelude.{◌≡◌, ◌≢◌, MatchOption};
 ghost use Rattle.scripts.specs.Verb.{word_of};
 
-/// The first word of a line that names no file.
+/// Says what the first word of a line is that names no file.
 #[derive(Clone, Copy)]
 pub enum Verb {
     Epoch,
@@ -16,7 +16,7 @@ pub enum Verb {
     Check,
 }
 
-/// The verb that a word is.
+/// Returns the verb that a word is, or `None` for any other word.
 pub fn verb_of(word: &[u8]) -> Option<Verb>
     ensures { MatchOption result ((verb : Verb) → word.now ≢ word_of verb) (λ verb. word.now ≡ word_of verb) }
 {

@@ -14,24 +14,24 @@ use std::alloc::Global;
 use std::borrow::CowStr;
 use tiff_dir::Level;
 
-/// How a description is told.
+/// Chooses the form in which a description is printed.
 #[derive(Clone, Copy, Debug, PartialEq, Eq)]
 pub enum Form {
-    /// In words for people, a line for each fact.
+    /// Words for people, one fact a line.
     Words,
-    /// In JSON for programs.
+    /// JSON for programs.
     Json,
 }
 
-/// What a file says of itself. In JSON, what gdalinfo says as well has gdalinfo's keys.
+/// Holds what a file says of itself. In JSON a fact that gdalinfo prints, too, has gdalinfo's key.
 #[derive(Debug, Drop, Serialize)]
 #[serde(rename_all = "camelCase")]
 pub struct Description<'a> {
-    /// The entity tag, with its quotes.
+    /// The ETag, with its quotes.
     pub tag: CowStr<'a>,
     /// The file's length in bytes.
     pub length: u64,
-    /// Columns and rows of the first level.
+    /// The columns and rows of level 0.
     #[serde(skip_serializing_if = "Option::is_none")]
     pub size: Option<(u32, u32)>,
     /// The levels, the largest first.
@@ -49,7 +49,8 @@ pub struct Description<'a> {
 }
 
 impl<'a> Description<'a> {
-    /// What a client's report of Info says of the file, with what the client knows of its levels; none without such a report.
+    /// Makes the description of the file that a client reads, from its report of Info and the levels that it knows. Returns `None` where no
+    /// report of Info stands. Fails where no memory is left.
     pub fn of(alloc: Global, client: &'a Client) -> Result<Option<Description<'a>>, Memory>
         ensures described { IfOk result (λ made. IfSome made (Describes client.now)) }
         ensures levels { IfOk result (λ made. IfSome made (λ d. AreLevelsBy client.now d.levels.items)) }
@@ -77,7 +78,7 @@ impl<'a> Description<'a> {
         }))
     }
 
-    /// Returns the text of a description, which ends with its last line: a line for each fact, or JSON with lines and indents. Fails where
+    /// Returns the description as text: one fact a line, or JSON with line breaks and indents. The text ends with a line feed. Fails where
     /// no memory is left.
     pub fn text(&self, alloc: Global, form: Form) -> Result<String, Memory>
         ensures json { form ≡ Form.Json → IfOk result (λ text. IsLine IsJson (string_bytes text)) }
@@ -93,14 +94,14 @@ impl<'a> Description<'a> {
     }
 }
 
-/// Whether a pixel is a point.
+/// Returns whether a pixel is a point.
 fn is_point(raster_type: Option<RasterType>) -> bool
     ensures { result ≡ is_point raster_type }
 {
     matches!(raster_type, Some(RasterType::Point))
 }
 
-/// The numbers of a placement, as GDAL's GetGeoTransform has them.
+/// Returns the numbers of a placement as GDAL's GetGeoTransform has them, or `None` without a placement.
 fn geo_transform_of(placement: Option<Placement>) -> Option<[f64; 6]>
     ensures { result ≡ option_map geo_transform_of placement }
 {
@@ -108,7 +109,7 @@ fn geo_transform_of(placement: Option<Placement>) -> Option<[f64; 6]>
     Some(placement.numbers())
 }
 
-/// The corners of an image of this size, where both are known.
+/// Returns the corners of an image of `size` columns and rows, where both the placement and the size are known.
 fn corners_by(placement: Option<Placement>, size: Option<(u32, u32)>) -> Option<Corners>
     ensures { result ≡ corners_by placement size }
 {
@@ -116,7 +117,7 @@ fn corners_by(placement: Option<Placement>, size: Option<(u32, u32)>) -> Option<
     Some(placement.corners(size?))
 }
 
-/// What the levels say that the client knows.
+/// Returns the facts of a client's levels, or none until the client knows all directories.
 fn levels_of(alloc: Global, client: &Client) -> Result<Vec<LevelFacts>, Memory>
     ensures { IfOk result (λ facts. AreLevelsBy client.now facts.items) }
 {
@@ -126,7 +127,7 @@ fn levels_of(alloc: Global, client: &Client) -> Result<Vec<LevelFacts>, Memory>
     }
 }
 
-/// What the levels say, each in its place.
+/// Returns the facts of each level, in the order of the levels.
 #[tactic(auto, using(crate::proofs::LevelLemmas::next_one))]
 fn facts_of(alloc: Global, levels: &[Level]) -> Result<Vec<LevelFacts>, Memory>
     ensures { IfOk result (λ facts. AreFactsOf levels.now facts.items) }
@@ -138,8 +139,8 @@ fn facts_of(alloc: Global, levels: &[Level]) -> Result<Vec<LevelFacts>, Memory>
     Ok(facts)
 }
 
-/// A description in JSON, with lines and indents. A number that JSON doesn't have (NaN, or one without end) is `null`. `Memory` is the
-/// only error: every description can be written.
+/// Returns a description in JSON, with line breaks and indents. A number that JSON doesn't have (NaN or an infinity) is `null`. Fails only
+/// where no memory is left.
 fn json_text(alloc: Global, description: &Description<'_>) -> Result<String, Memory>
     ensures { IfOk result (λ text. IsJson (string_bytes text)) }
 {

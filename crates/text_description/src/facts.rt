@@ -1,4 +1,4 @@
-//! What the levels and the keys of a file say, by what they mean.
+//! What the levels and the keys of a file mean (TIFF 6.0; GeoTIFF 1.1, OGC 19-008, annex A).
 ghost use Rattle.std.specs.Prelude.{◌≡◌, ◌≤◌, ◌==◌, IfOk, IsTrue, find, length, option_copied};
 ghost use Rattle.std.specs.List.{before_first, position};
 ghost use Rattle.std.specs.Cow.{cow_str_bytes};
@@ -12,41 +12,43 @@ use std::alloc::{AllocError, Global};
 use std::borrow::CowStr;
 use tiff_dir::{Codec, Compression, Level};
 
-/// What a level says of its pixels.
+/// Holds what a level says of its pixels.
 #[derive(Clone, Copy, Debug, PartialEq, Eq, Serialize)]
 pub struct LevelFacts {
-    /// Columns and rows.
+    /// The number of columns and of rows.
     pub size: (u32, u32),
-    /// Columns and rows of a tile.
+    /// The number of columns and of rows of a tile.
     pub block: (u32, u32),
-    /// How many tiles.
+    /// The number of tiles.
     pub tiles: u32,
-    /// Samples of a pixel.
+    /// The number of samples of a pixel.
     pub samples: u16,
-    /// Bits of a sample.
+    /// The number of bits of a sample.
     pub bits: u16,
-    /// GDAL's name of a sample's type.
+    /// GDAL's name for the type of a sample: `Byte` or `UInt16`.
     #[serde(rename = "type")]
     pub kind: &'static str,
-    /// The standard's name of PhotometricInterpretation.
+    /// The name of PhotometricInterpretation's value (TIFF 6.0, section 8).
     pub photometric: &'static str,
     pub compression: &'static str,
 }
 
-/// What a pixel is (GTRasterTypeGeoKey).
+/// Says what a pixel is (GTRasterTypeGeoKey).
 #[derive(Clone, Copy, Debug, PartialEq, Eq, Serialize)]
 pub enum RasterType {
+    /// An area (1).
     Area,
+    /// A point (2).
     Point,
 }
 
-/// The coordinate system, as far as keys name it.
+/// Holds the number and the name of the coordinate system, as far as the keys have them.
 #[derive(Debug, Drop, Serialize)]
 pub struct CoordinateSystem<'a> {
-    /// The number of ProjectedCRSGeoKey or GeodeticCRSGeoKey, most of which are EPSG's.
+    /// The number in ProjectedCRSGeoKey or GeodeticCRSGeoKey. Most of these are EPSG's.
     #[serde(skip_serializing_if = "Option::is_none")]
     pub number: Option<u16>,
-    /// The text of a citation.
+    /// The name in a citation.
     #[serde(skip_serializing_if = "Option::is_none")]
     pub name: Option<CowStr<'a>>,
 }
@@ -60,10 +62,10 @@ const PROJECTED: u16 = 3072;
 /// GeodeticCRSGeoKey.
 const GEODETIC: u16 = 2048;
 
-/// The system isn't defined.
+/// The value of a CRS key that leaves the system undefined.
 const UNDEFINED: u16 = 0;
 
-/// Other keys define the system.
+/// The value of a CRS key whose system other keys define.
 const USER_DEFINED: u16 = 32767;
 
 /// ProjectedCitationGeoKey.
@@ -75,14 +77,14 @@ const GEODETIC_CITATION: u16 = 2049;
 /// GTCitationGeoKey.
 const CITATION: u16 = 1026;
 
-/// What stands before the name of a projected system in a citation with labels, as of ERDAS.
+/// The label before the name of a projected system in a citation, as ERDAS writes it.
 const PROJECTED_LABEL: &[u8] = b"PCS Name = ";
 
-/// What stands before the name of a geodetic system in one, as GDAL writes it.
+/// The label before the name of a geodetic system in a citation, as GDAL writes it.
 const GEODETIC_LABEL: &[u8] = b"GCS Name = ";
 
 impl LevelFacts {
-    /// What a level says: its sides and those of its tiles, how many tiles there are, and its samples.
+    /// Returns the facts of a level: its sides, its tiles and its samples.
     pub fn of(level: &Level) -> LevelFacts
         ensures { IsFactsOf level.now result }
     {
@@ -99,14 +101,14 @@ impl LevelFacts {
     }
 }
 
-/// GDAL's name of the type of a sample of so many bits, 8 or 16.
+/// Returns GDAL's name for the type of a sample of `bits` bits, 8 or 16.
 fn type_name(bits: u16) -> &'static str
     ensures { result.now ≡ type_name bits }
 {
     if bits == 8 { "Byte" } else { "UInt16" }
 }
 
-/// Returns the name (TIFF 6.0, section 8) of what the samples of a pixel are: one that is grey, or red, green and blue.
+/// Returns the name of PhotometricInterpretation's value (TIFF 6.0, section 8): BlackIsZero for one sample a pixel, RGB for three.
 fn photometric_name(samples: u16) -> &'static str
     ensures { result.now ≡ photometric_name samples }
 {
@@ -122,14 +124,14 @@ fn compression_name(compression: Compression) -> &'static str
     }
 }
 
-/// The first key of this number.
+/// Returns the first key with the number `id`.
 fn key_of(keys: &[Key], id: u16) -> Option<&Key>
     ensures { option_copied result ≡ find (λ key. key.id == id) keys.now }
 {
     keys.iter().find(|key| key.id == id)
 }
 
-/// The value of the first key of this number.
+/// Returns the value of the first key with the number `id`.
 fn value_of(keys: &[Key], id: u16) -> Option<&KeyValue>
     ensures { option_copied result ≡ value_of id keys.now }
 {
@@ -139,7 +141,7 @@ fn value_of(keys: &[Key], id: u16) -> Option<&KeyValue>
     }
 }
 
-/// The number of a key that has one.
+/// Returns the number in the first key `id`, or `None` where its value is none.
 fn number_of(keys: &[Key], id: u16) -> Option<u16>
     ensures { result ≡ number_of id keys.now }
 {
@@ -149,14 +151,14 @@ fn number_of(keys: &[Key], id: u16) -> Option<u16>
     }
 }
 
-/// Returns where the bar or the NUL stands that ends a text.
+/// Returns the index of the bar or NUL that ends a text, or `None` where the text has neither.
 fn place_of_end(bytes: &[u8]) -> Option<usize>
     ensures { result ≡ position is_end bytes.now }
 {
     bytes.iter().position(|byte| *byte == b'|' || *byte == 0)
 }
 
-/// Returns a text up to its end. Some writers give a key the texts of others, too, which follow it.
+/// Returns a text up to its first bar or NUL. Some writers give a key the texts of other keys, too, which follow it.
 fn before_end(bytes: &[u8]) -> &[u8]
     ensures { result.now ≡ before_first is_end bytes.now }
 {
@@ -174,7 +176,7 @@ fn has_label(text: &[u8]) -> bool
     text.starts_with(PROJECTED_LABEL) || text.starts_with(GEODETIC_LABEL)
 }
 
-/// Returns the name in a text: what follows its label, if it has one.
+/// Returns the name in a text: what follows the label, or all of it where it has no label.
 fn named_in(text: &[u8]) -> &[u8]
     ensures { result.now ≡ named_in text.now }
 {
@@ -185,7 +187,7 @@ fn named_in(text: &[u8]) -> &[u8]
     }
 }
 
-/// Returns the name in the text of a key that has one.
+/// Returns the name in the text of the first key `id`, or `None` where its value is no text.
 fn text_of(keys: &[Key], id: u16) -> Option<&[u8]>
     ensures { option_copied result ≡ text_of id keys.now }
 {
@@ -195,7 +197,7 @@ fn text_of(keys: &[Key], id: u16) -> Option<&[u8]>
     }
 }
 
-/// A number of ProjectedCRSGeoKey or GeodeticCRSGeoKey, if it numbers a system.
+/// Returns the number in a CRS key, or `None` where the key leaves the system undefined or to other keys.
 fn numbered(number: u16) -> Option<u16>
     ensures { result ≡ numbered number }
 {
@@ -205,7 +207,7 @@ fn numbered(number: u16) -> Option<u16>
     }
 }
 
-/// The number of the system: of the projected one, where its key is there.
+/// Returns the number of the coordinate system: by ProjectedCRSGeoKey, or by GeodeticCRSGeoKey where that key is missing.
 fn system_number(keys: &[Key]) -> Option<u16>
     ensures { result ≡ system_number keys.now }
 {
@@ -215,7 +217,7 @@ fn system_number(keys: &[Key]) -> Option<u16>
     }
 }
 
-/// Returns the citation of a geodetic system. Beside the key of a projected system there is none, since it names the base of that.
+/// Returns the citation of a geodetic system. With ProjectedCRSGeoKey it is `None`: the text then names the base of the projected system.
 fn geodetic_citation(keys: &[Key]) -> Option<&[u8]>
     ensures { option_copied result ≡ geodetic_citation keys.now }
 {
@@ -225,7 +227,7 @@ fn geodetic_citation(keys: &[Key]) -> Option<&[u8]>
     }
 }
 
-/// Returns the first citation that names the system, and not its base.
+/// Returns the first citation that names the system and not its base: the projected, the geodetic, or the general one.
 fn citation(keys: &[Key]) -> Option<&[u8]>
     ensures { option_copied result ≡ citation keys.now }
 {
@@ -234,7 +236,7 @@ fn citation(keys: &[Key]) -> Option<&[u8]>
 }
 
 impl RasterType {
-    /// What the file says that a pixel is; of numbers that the standard doesn't have, nothing.
+    /// Returns what the file says that a pixel is, or `None` where it doesn't say one of the two.
     pub fn of(info: &Info) -> Option<RasterType>
         ensures { result ≡ raster_type_by info.now.geo.keys.items }
     {
@@ -244,7 +246,7 @@ impl RasterType {
         }
     }
 
-    /// The one of this number.
+    /// Returns the raster type of a value of GTRasterTypeGeoKey (OGC 19-008, section 7.5.2): 1 is an area, 2 a point.
     fn numbered(number: u16) -> Option<RasterType>
         ensures { result ≡ raster_type_of number }
     {
@@ -257,7 +259,7 @@ impl RasterType {
 }
 
 impl<'a> CoordinateSystem<'a> {
-    /// The number and the text of the first keys that have them.
+    /// Returns the number and the name of the coordinate system, or `None` where no key has either. Fails where no memory is left.
     pub fn of(alloc: Global, info: &'a Info) -> Result<Option<CoordinateSystem<'a>>, AllocError>
         ensures { IfOk result (IsSystemBy info.now.geo.keys.items) }
     {
@@ -274,7 +276,7 @@ impl<'a> CoordinateSystem<'a> {
     }
 }
 
-/// The text of bytes; what isn't UTF-8 in them becomes U+FFFD.
+/// Returns bytes as text, with U+FFFD for what isn't UTF-8. Fails where no memory is left.
 #[tactic(auto, using(crate::proofs::TextLemmas::stays))]
 pub fn readable(alloc: Global, bytes: &[u8]) -> Result<CowStr<'_>, AllocError>
     ensures { IfOk result (λ text. cow_str_bytes text ≡ utf8_lossy bytes.now) }

@@ -1,4 +1,4 @@
-//! What a file says of itself and of its place: in words for people, and in JSON for programs. There is no projection and no guess:
+//! Describes a file and its place on the ground: in words for people, and in JSON for programs. It projects nothing and guesses nothing:
 //! what the file doesn't say is absent.
 #![tactic(auto)]
 

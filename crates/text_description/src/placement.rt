@@ -9,35 +9,35 @@ use cog_client::Info;
 use serde::Serialize;
 use std::num::f64_from_bits_with_nan;
 
-/// The first column and row, and what a step adds that goes along the other axis.
+/// Zero: the first column and row, and what a step along one axis adds to the other.
 const NOTHING: f64 = 0.0;
 
-/// Half a column or a row before the first one.
+/// Half a column or row before the first one.
 const HALF_BEFORE: f64 = -0.5;
 
-/// A side has two halves.
+/// Two, by which a side is halved.
 const TWO: f64 = 2.0;
 
-/// The numbers of the constants, which the definitions name. It does nothing: its contract is the law.
+/// States that the constants are 0, 2 and -1/2, since the definitions name them. It does nothing: its contract is the law.
 pub fn law_halves_are()
     ensures nothing { NOTHING ≡ of_int binary64 (pos 0) }
     ensures two { TWO ≡ of_int binary64 (pos 2) }
     ensures half { HALF_BEFORE ≡ neg (div binary64 (of_int binary64 (pos 1)) (of_int binary64 (pos 2))) }
 {}
 
-/// The place of a column and a row, which may have fractions: `left + across.0 * column + down.0 * row` to the right, and
-/// `top + across.1 * column + down.1 * row` upwards, in the units of the coordinate system.
+/// Places columns and rows, fractions of them too, in the units of the coordinate system. To the right a place is `left + across.0 * column
+/// + down.0 * row`. Upwards it is `top + across.1 * column + down.1 * row`.
 #[derive(Clone, Copy, Debug, PartialEq)]
 pub struct Placement {
     pub left: f64,
     pub top: f64,
-    /// The step from a column to the next one, to the right and upwards.
+    /// The step from one column to the next, to the right and upwards.
     pub across: (f64, f64),
-    /// The step from a row to the next one, to the right and upwards.
+    /// The step from one row to the next, to the right and upwards.
     pub down: (f64, f64),
 }
 
-/// The places of an image's corners and of its middle, each to the right and upwards.
+/// Holds the places of an image's corners and of its middle, each to the right and upwards.
 #[derive(Clone, Copy, Debug, PartialEq, Serialize)]
 #[serde(rename_all = "camelCase")]
 pub struct Corners {
@@ -48,21 +48,21 @@ pub struct Corners {
     pub center: (f64, f64),
 }
 
-/// The number of an item: a double, its most significant byte first.
+/// Returns the double of eight bytes, the most significant byte first.
 fn number_of(item: &[u8; 8]) -> f64
     ensures { result ≡ from_bits binary64 (from_be_bytes w64 item.now) }
 {
     f64_from_bits_with_nan(u64::from_be_bytes(*item))
 }
 
-/// The number at a place of a field, where it has one there.
+/// Returns the double at index `place` of a field, or `None` where the field is shorter.
 fn number_at(items: &[[u8; 8]], place: usize) -> Option<f64>
     ensures { result ≡ double_at items.now place }
 {
     items.get(place).map(number_of)
 }
 
-/// By the transformation's numbers, of which four stand in a row.
+/// Returns the placement by ModelTransformation, whose numbers stand row by row, four to a row.
 fn by_transformation(items: &[[u8; 8]]) -> Option<Placement>
     ensures { result ≡ transformed items.now }
 {
@@ -74,7 +74,8 @@ fn by_transformation(items: &[[u8; 8]]) -> Option<Placement>
     })
 }
 
-/// By the sizes of a pixel and one tiepoint: a column, a row, a height, and the place of that. Of several tiepoints there is none.
+/// Returns the placement by ModelPixelScale and one ModelTiepoint: a column, a row, a height, and the place of these. Returns `None` where
+/// there are several tiepoints.
 fn by_scale(scale: &[[u8; 8]], tiepoint: &[[u8; 8]]) -> Option<Placement>
     ensures { result ≡ scaled scale.now tiepoint.now }
 {
@@ -92,7 +93,7 @@ fn by_scale(scale: &[[u8; 8]], tiepoint: &[[u8; 8]]) -> Option<Placement>
     })
 }
 
-/// As the fields say it of columns and rows: by the scale and a tiepoint, or else by the transformation.
+/// Returns the placement as the fields have it: by the scale and the tiepoint, or else by the transformation.
 fn as_said(info: &Info) -> Option<Placement>
     ensures { result ≡ said_of info.now }
 {
@@ -108,8 +109,8 @@ impl Placement {
     ghost use Rattle.std.specs.Float.Ieee.{binary64, of_int};
     ghost use Rattle.text_description.specs.Placement.{corners_of, geo_transform_of, place_of, placement_of};
 
-    /// Where the corners of the columns and rows lie, where the file says it. Where a pixel is a point, what the file says is the
-    /// middle of its first pixel, and the corner lies half a pixel before it.
+    /// Returns where the corners of columns and rows lie, or `None` where the file doesn't say it. With `is_point` the fields place the
+    /// middle of the first pixel, and its corner lies half a pixel before that.
     pub fn of(info: &Info, is_point: bool) -> Option<Placement>
         ensures { result ≡ placement_of info.now is_point }
     {
@@ -121,7 +122,7 @@ impl Placement {
         Some(Placement { left, top, ..said })
     }
 
-    /// The place of a column and a row.
+    /// Returns the place of a column and a row, to the right and upwards. Both may have fractions.
     pub fn at(&self, column: f64, row: f64) -> (f64, f64)
         ensures { result ≡ place_of self.now column row }
     {
@@ -131,7 +132,7 @@ impl Placement {
         )
     }
 
-    /// The six numbers of GDAL's GetGeoTransform, in its order.
+    /// Returns the six numbers of GDAL's GetGeoTransform, in its order.
     pub fn numbers(&self) -> [f64; 6]
         ensures { result ≡ geo_transform_of self.now }
     {
@@ -145,7 +146,7 @@ impl Placement {
         ]
     }
 
-    /// The corners of an image of so many columns and rows.
+    /// Returns the corners and the middle of an image of `sides` columns and rows.
     pub fn corners(&self, sides: (u32, u32)) -> Corners
         ensures { result ≡ corners_of self.now (of_int binary64 (pos sides.0)) (of_int binary64 (pos sides.1)) }
     {

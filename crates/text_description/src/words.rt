@@ -1,4 +1,4 @@
-//! A description in words, a line for each fact.
+//! A description in words, one fact a line.
 use crate::description::Description;
 use crate::facts::{CoordinateSystem, LevelFacts, RasterType};
 use crate::placement::{Corners, Placement};
@@ -6,7 +6,7 @@ use ryu::Buffer;
 use std::fmt;
 use text_report::EscapedText;
 
-/// Two numbers as decimals, the shortest that stand for them.
+/// Prints two numbers, each as the shortest decimal that stands for it.
 #[derive(Clone, Copy)]
 struct Pair((f64, f64));
 
@@ -18,7 +18,7 @@ impl fmt::Display for Pair {
     }
 }
 
-/// A number and the word for so many.
+/// Prints a number and a noun, which is in the plural unless the number is 1.
 #[derive(Clone, Copy)]
 struct CountedNoun(u32, &'static str);
 

@@ -1,7 +1,7 @@
-//! Texts of others, as a terminal may see them.
+//! Texts that others wrote, made safe to print.
 use std::fmt;
 
-/// A text, whose control characters, which a terminal may take for commands, are told as `\u{..}`.
+/// Prints a text with each control character as `\u{..}`, since a terminal may take it for a command.
 #[derive(Clone, Copy)]
 pub struct EscapedText<'a>(pub &'a str);
 

@@ -1,4 +1,4 @@
-//! The text of what Info tells.
+//! Info as lines of text.
 ghost use Rattle.std.specs.Prelude.{◌≡◌, ◌++◌, IfOk, OnOk};
 ghost use Rattle.text_report.specs.InfoText.{IsOfTag};
 
@@ -8,9 +8,9 @@ use geokeys::{Key, KeyValue};
 use http_fields::tag::Tag;
 use std::alloc::{AllocError, Global};
 
-/// What Info tells of the file of a tag, a line for each fact: the tag, the levels with their widths and lengths, the minor
-/// revision of the keys, the keys, and the model fields that are there. Doubles are told as 16 hexadecimal digits, and bytes of a
-/// text that aren't printable, and the backslash, as `\x` and two digits.
+/// Returns Info as text, one fact a line. The first line has the ETag `tag`. Then come the columns and rows of each level, the minor
+/// revision of the keys, the keys, and the model fields that are there. A double is written as 16 hexadecimal digits. In ASCII values a
+/// backslash, and each byte that isn't printable, is written as `\x` and two hexadecimal digits. Fails where no memory is left.
 pub fn info_text(alloc: Global, tag: &Tag, info: &Info) -> Result<Vec<u8>, Memory>
     ensures { IfOk result (λ text. IsOfTag tag.now text.items) }
 {
@@ -23,7 +23,7 @@ pub fn info_text(alloc: Global, tag: &Tag, info: &Info) -> Result<Vec<u8>, Memor
     Ok(text)
 }
 
-/// What Info tells, without the tag.
+/// Returns the lines that follow the ETag's.
 fn facts(alloc: Global, info: &Info) -> Result<Vec<u8>, AllocError> {
     let mut text = Vec::new(alloc);
     for (n, (width, length)) in info.sides.iter().enumerate() {
@@ -67,7 +67,7 @@ fn push_key(alloc: Global, text: &mut Vec<u8>, key: &Key) -> Result<(), AllocErr
     push(text, b"\n")
 }
 
-/// A model field, if it is there.
+/// Appends the line of a model field, if the file has the field.
 fn push_field(
     alloc: Global,
     text: &mut Vec<u8>,

@@ -1,5 +1,5 @@
-//! Outcomes as users see them: a window as a picture, Info as lines of text, and faults as sentences. It escapes the control
-//! characters of texts that others wrote as `\u{..}`.
+//! Prints outcomes for users: a window as a picture, Info as lines of text, and a fault as a sentence. It escapes the control characters of
+//! texts that others wrote as `\u{..}`.
 #![tactic(auto)]
 
 mod escaped_text;

@@ -1,4 +1,4 @@
-//! Windows as portable graymaps and pixmaps (Netpbm, the formats P5 and P6).
+//! Windows as pictures: portable graymaps and pixmaps (Netpbm, the formats P5 and P6).
 ghost use Rattle.std.specs.Prelude.{◌≡◌, ◌++◌, IfOk};
 ghost use Rattle.text_report.specs.Netpbm.{netpbm};
 
@@ -7,8 +7,8 @@ use extents::Memory;
 use itoa::Buffer;
 use std::alloc::Global;
 
-/// The head of a window's picture: its text without the samples, which stand row by row behind it. The greatest value is 255, or 65535
-/// of 16 bits, where a sample has two bytes, most significant first.
+/// Returns the head of a window's picture; its samples follow, row by row. The head names the greatest value of a sample: 65535 of 16 bits,
+/// else 255. A sample of 16 bits has two bytes, the most significant first. Fails where no memory is left.
 #[tactic(auto, unfolding(crate::specs::Netpbm::netpbm))]
 pub fn picture_head(alloc: Global, window: &Window) -> Result<Vec<u8>, Memory>
     ensures { IfOk result (λ head. head.items ++ window.now.pixels.items
@@ -28,7 +28,8 @@ pub fn picture_head(alloc: Global, window: &Window) -> Result<Vec<u8>, Memory>
     Ok(head)
 }
 
-/// Returns a window as P5, or as P6 where a pixel has three samples: a head of text, then the samples. Fails where no memory is left.
+/// Returns the picture of a window: the head, and the samples after it. It is P5 where a pixel has one sample, else P6. Fails where no
+/// memory is left.
 pub fn window_picture(alloc: Global, window: &Window) -> Result<Vec<u8>, Memory>
     ensures { IfOk result (λ text. text.items
         ≡ netpbm window.now.samples window.now.bits window.now.w window.now.h window.now.pixels.items) }

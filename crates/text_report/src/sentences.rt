@@ -1,12 +1,12 @@
-//! Sentences for people: what is wrong with a file.
+//! Sentences on what is wrong with a file.
 use std::fmt;
 use tiff_dir::{FileFault, tags};
 
-/// A fault of a file, as a sentence without its end.
+/// Prints a fault of a file as a sentence without a full stop.
 #[derive(Clone, Copy, Debug, PartialEq, Eq)]
 pub struct FaultSentence(pub FileFault);
 
-/// A field of a directory by its tag, with its name where it has one here (TIFF 6.0, section 8; GeoTIFF 1.1).
+/// Prints a field by its tag, after its name where this table has one (TIFF 6.0, section 8; GeoTIFF 1.1).
 #[derive(Clone, Copy)]
 struct FieldName(u16);
 
@@ -39,7 +39,7 @@ impl fmt::Display for FieldName {
     }
 }
 
-/// What is read of a field whose value isn't.
+/// Returns which values of the field `tag` are read.
 fn taken(tag: u16) -> &'static str {
     match tag {
         tags::BITS_PER_SAMPLE => "only 8 or 16 bits are read, the same for all samples",
@@ -52,7 +52,7 @@ fn taken(tag: u16) -> &'static str {
     }
 }
 
-/// What is missing without a field.
+/// Returns why the field `tag` has to be there.
 fn needed(tag: u16) -> &'static str {
     match tag {
         tags::TILE_WIDTH | tags::TILE_LENGTH => "only tiles are read, no strips",
@@ -82,7 +82,8 @@ impl fmt::Display for FaultSentence {
     }
 }
 
-/// Returns the sentence of a fault, without the name of its field. Help, the profile, the header for C and Python have the same ones.
+/// Returns the sentence of a fault, without the name of its field. The help, `docs/PROFILE.md`, the header for C and the Python package
+/// have the same sentences.
 fn plain_sentence(fault: FileFault) -> &'static str {
     match fault {
         FileFault::Header => "no classic TIFF: the byte order or the number 42 is wrong",
@@ -114,11 +115,11 @@ fn plain_sentence(fault: FileFault) -> &'static str {
     }
 }
 
-/// What helps against a fault, as a sentence without its end.
+/// Prints what helps against a fault, as a sentence without a full stop.
 #[derive(Clone, Copy, Debug, PartialEq, Eq)]
 pub struct WayOut(pub FileFault);
 
-/// Returns what helps against a fault where no conversion does.
+/// Returns what helps against a fault that no conversion mends, or `None` where one may mend it.
 fn way_without_conversion(fault: FileFault) -> Option<&'static str> {
     match fault {
         FileFault::PastEnd => Some("Copy it anew: it was cut, or isn't written to its end"),
@@ -130,7 +131,7 @@ fn way_without_conversion(fault: FileFault) -> Option<&'static str> {
     }
 }
 
-/// Returns what is added to the conversion by `gdal_translate` that helps against a fault.
+/// Returns the options of `gdal_translate` for the conversion that helps against a fault, beside those that each conversion has.
 fn options_for(fault: FileFault) -> &'static str {
     match fault {
         FileFault::Header => " -co BIGTIFF=NO",
@@ -161,7 +162,7 @@ impl fmt::Display for WayOut {
     }
 }
 
-/// A fault as the line that explains it: its number, its field if it is about one, its sentence, and the way out.
+/// Prints a fault as one line: its number, the tag of its field if it is about one, its sentence, and what helps against it.
 #[derive(Clone, Copy, Debug, PartialEq, Eq)]
 pub struct ExplainedFault(pub FileFault);
 

@@ -1,4 +1,4 @@
-//! A server in memory.
+//! A server in memory as a transport.
 ghost use Rattle.std.specs.Prelude.{◌≡◌, ◌↔◌, IfErr, IfOk, IsTrue, OnOk, None, [], option_map};
 ghost use Rattle.cog_client.specs.Transport.{IsTrueToAll};
 ghost use Rattle.cog_server.specs.Server.{IsRefusal, refusal_of};
@@ -9,7 +9,7 @@ use cog_server::{PublishError, Server};
 use http_range::{law_fronts_are_read, law_tags_tell_publications};
 use std::alloc::Global;
 
-/// Whether an answer carries the tag of the file of this name, or none.
+/// Returns whether an answer is for the file `name`, where `carried` is the name of the file whose ETag it carries. Without an ETag it is.
 fn is_about(carried: &Option<Vec<u8>>, name: &[u8]) -> bool
     ensures { IsTrue result ↔ IsAbout name.now (option_map (λ n. n.items) carried.now) }
 {
@@ -19,7 +19,7 @@ fn is_about(carried: &Option<Vec<u8>>, name: &[u8]) -> bool
     }
 }
 
-/// The text of the server's answer, unless it is about another file.
+/// Returns the text of the server's answer. Fails with `Lost` where it is for another file, or where no memory is left.
 pub(crate) fn answer_about(server: &Server, name: &[u8], request: &[u8]) -> Result<Vec<u8>, Lost>
     ensures answered { IfOk result (λ text. IsAnswerAbout server.now.catalogue name.now request.now text.items) }
     ensures shows { IfOk result (λ text. IsTrueToAll (StandsIn server.now.catalogue name.now) text.items) }
@@ -34,8 +34,8 @@ pub(crate) fn answer_about(server: &Server, name: &[u8], request: &[u8]) -> Resu
     Ok(answer.text)
 }
 
-/// A server that is asked for the file of one name. It speaks for each book that has the file of its catalogue under that name. An
-/// answer that carries another file's tag is lost, and so is one for which there is no memory.
+/// Answers requests from a server in memory, for the file of one name. It speaks for each book that has the file of the server's catalogue
+/// under that name. An answer that carries another file's ETag is lost, and so is one for which no memory is left.
 #[derive(Drop)]
 pub struct InMemory<'s> {
     server: &'s Server,
@@ -48,7 +48,7 @@ impl<'s> InMemory<'s> {
     ghost use Rattle.std.specs.Prelude.{◌≡◌, false};
     ghost use Rattle.transports.specs.Transports.{exchanges_of, has_lost, served_name, served_state};
 
-    /// A transport without exchanges.
+    /// Makes a transport without exchanges.
     ///
     /// ```
     /// let server = server_of_one(rt.alloc(), 1, b"image.tif", file)?;
@@ -69,7 +69,7 @@ impl<'s> InMemory<'s> {
         }
     }
 
-    /// Whether the answer to an exchange was lost.
+    /// Returns whether the answer to an exchange was lost.
     pub fn has_lost(&self) -> bool
         ensures { result ≡ has_lost self.now }
     {
@@ -100,7 +100,7 @@ impl Transport for InMemory<'_> {
         ensures server { served_state self.new ≡ served_state self.old }
         ensures name { served_name self.new ≡ served_name self.old }
 
-        // So it keeps the trait's law. An answer may be lost, too, and that is told.
+        // It keeps the trait's law. An answer may be lost, too, and `has_lost` says so.
         ensures lost { OnErr result (OrLost (IsAnswerAbout (served_state self.old).catalogue (served_name self.old)) request.now None) }
         ensures told { OnErr result (IsTrue (has_lost self.new)) }
         ensures kept { OnOk result (has_lost self.new ≡ has_lost self.old) }
@@ -123,7 +123,7 @@ impl Transport for InMemory<'_> {
     }
 }
 
-/// A server that has one file, the first publication of an epoch.
+/// Makes a server that has one file, the first publication of `epoch`. Fails where the server refuses the file, or where no memory is left.
 pub fn server_of_one(
     alloc: Global,
     epoch: u32,

@@ -4,8 +4,8 @@ ghost use Rattle.std.specs.Prelude.{◌≡◌};
 use cog_client::{Lost, Pieces, Transport};
 use std::alloc::Global;
 
-/// Another transport, each of whose answers comes in pieces: of the given sizes, one after another, at least a byte each, and after
-/// the last of them of as many bytes as there is room for. It speaks for what the other one speaks for, and counts its exchanges.
+/// Hands over each answer of another transport in pieces. The first pieces have the given sizes, one after another, but at least a byte
+/// each. Each further piece fills the room that it is given. It speaks for what the other transport speaks for, and counts its exchanges.
 #[derive(Drop)]
 pub struct InPieces<'p, T> {
     inner: T,
@@ -19,7 +19,7 @@ impl<'p, T> InPieces<'p, T> {
     ghost use Rattle.std.specs.Prelude.{◌≡◌, ◌<◌, ◌≤◌, []};
     ghost use Rattle.transports.specs.Transports.{rest_of, source_of};
 
-    /// One to which no answer has come.
+    /// Makes one to which no answer has come.
     pub fn new(alloc: Global, inner: T, sizes: &'p [usize]) -> Self
         ensures source { source_of result ≡ inner }
         ensures rest { rest_of result ≡ [] }
@@ -33,7 +33,7 @@ impl<'p, T> InPieces<'p, T> {
         }
     }
 
-    /// What is still to come of the answer.
+    /// Returns what is still to come of the answer.
     fn rest(&self) -> &[u8]
         ensures { result.now ≡ rest_of self.now }
     {
@@ -43,7 +43,7 @@ impl<'p, T> InPieces<'p, T> {
         }
     }
 
-    /// The size of the next piece, at most what there is room for.
+    /// Returns the size of the next piece, at most `room`.
     fn next_size(&mut self, room: usize) -> usize
         ensures source { source_of self.new ≡ source_of self.old }
         ensures rest { rest_of self.new ≡ rest_of self.old }

@@ -8,8 +8,8 @@ ghost use Rattle.transports.specs.InMemory.{Has, IsAnswerAbout};
 
 use cog_client::law_whole_answers_bring_on;
 
-/// Of a file that it has, a server in memory serves whatever a client asks for, and so does each front of its answers
-/// that has room for a head and for as many blocks as are asked for at once.
+/// A server in memory serves whatever a client asks for of a file that it has. So does each front of its answers that has room for a head
+/// and for as many blocks as are asked for at once.
 pub fn law_servers_in_memory_serve()
     ensures whole { (catalogue : Catalogue) (name : List ℕ) (p : Publication) → Has catalogue name p
         → Serves (OrLost (IsAnswerAbout catalogue name)) p }

@@ -1,5 +1,5 @@
-//! Transports in memory, for tests and for programs without a network: a server's core, one whose file is replaced, and a transport
-//! that loses and cuts answers by a script.
+//! Transports in memory, for tests and for programs without a network. They answer from a server's core, or from one whose file is
+//! replaced. Answers may come in pieces, and a script may lose and cut them.
 #![tactic(auto)]
 
 mod in_memory;

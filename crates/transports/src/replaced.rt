@@ -3,9 +3,8 @@ use crate::in_memory::answer_about;
 use cog_client::{Lost, Transport};
 use cog_server::Server;
 
-/// A server that is asked for the file of one name, and after so many exchanges another server in its place, as where the file is
-/// replaced, or the server is started anew. It speaks for each book that has the files of both under that name, and counts its
-/// exchanges.
+/// Answers requests for the file of one name from one server, and after some exchanges from another. So it is where the file is replaced,
+/// or the server is started anew. It speaks for each book that has the files of both under that name, and counts its exchanges.
 #[derive(Drop)]
 pub struct Replaced<'s> {
     before: &'s Server,
@@ -20,7 +19,7 @@ impl<'s> Replaced<'s> {
     ghost use Rattle.std.specs.Prelude.{◌≡◌, false, [], ◌∷◌};
     ghost use Rattle.transports.specs.Transports.{count_of, left_of, lost_of, name_of, states_of};
 
-    /// A transport without exchanges: so many of them come to the first server.
+    /// Makes a transport without exchanges. The first `left` exchanges are with the server `before`, all others with the server `after`.
     pub fn new(before: &'s Server, after: &'s Server, name: &'s [u8], left: u64) -> Self
         ensures servers { states_of result ≡ before.now ∷ after.now ∷ [] }
         ensures name { name_of result ≡ name.now }
@@ -56,14 +55,14 @@ impl Transport for Replaced<'_> {
     fn exchange(&mut self, request: &[u8]) -> Result<Vec<u8>, Lost>
         requires { count_of self.old + 1 < 2 ^ 64 }
 
-        // What comes is the answer to the request of the server whose turn it is.
+        // What comes is the answer to the request, by the server whose turn it is.
         ensures in_turn { IfOk result (λ text.
             IsAnswerAbout (state_in_turn self.old).catalogue (name_of self.old) request.now text.items) }
         ensures servers { states_of self.new ≡ states_of self.old }
         ensures name { name_of self.new ≡ name_of self.old }
         ensures left { left_of self.new ≡ left_of self.old - 1 }
 
-        // So it keeps the trait's law. An answer may be lost, too, and that is told.
+        // It keeps the trait's law. An answer may be lost, too, and `has_lost` says so.
         ensures answered { IfOk result (λ text. AnswersOfEither self.old request.now text.items) }
         ensures lost { OnErr result (OrLost (AnswersOfEither self.old) request.now None) }
         ensures told { OnErr result (IsTrue (lost_of self.new)) }

@@ -4,18 +4,18 @@ ghost use Rattle.http_range.specs.Honest.{IsFront};
 
 use cog_client::{Lost, Transport};
 
-/// What becomes of an answer.
+/// Says what becomes of an answer.
 #[derive(Clone, Copy, Debug, PartialEq, Eq)]
 pub enum Fate {
     /// Nothing of it comes.
     Lost,
-    /// So many of its bytes come, from the first one on, if it has so many.
+    /// Its first bytes come, at most this many.
     Cut(usize),
     /// All of it comes.
     Whole,
 }
 
-/// What comes of an answer.
+/// Returns what comes of an answer. Fails where nothing does.
 fn arrived(mut answer: Vec<u8>, fate: Fate) -> Result<Vec<u8>, Lost>
     ensures { IfOk result (λ text. IsFront text.items answer.items) }
 {
@@ -29,8 +29,8 @@ fn arrived(mut answer: Vec<u8>, fate: Fate) -> Result<Vec<u8>, Lost>
     }
 }
 
-/// Another transport whose answers are lost and cut by a script: each exchange uses up one fate, and after the last one
-/// all answers are lost. It speaks for what the other one speaks for, and counts its exchanges.
+/// Loses and cuts the answers of another transport by a script. Each exchange uses up one fate, and after the last one all answers are
+/// lost. It speaks for what the other transport speaks for, and counts its exchanges. It always says that an answer may have been lost.
 #[derive(Drop)]
 pub struct Scripted<'f, T> {
     inner: T,
@@ -41,7 +41,7 @@ impl<'f, T> Scripted<'f, T> {
     ghost use Rattle.std.specs.Prelude.{◌≡◌};
     ghost use Rattle.transports.specs.Transports.{fates_of, inner_of};
 
-    /// One that has used up no fate.
+    /// Makes one that has used up no fate.
     pub fn new(inner: T, fates: &'f [Fate]) -> Self
         ensures inner { inner_of result ≡ inner }
         ensures fates { fates_of result ≡ fates.now }
@@ -49,7 +49,7 @@ impl<'f, T> Scripted<'f, T> {
         Scripted { inner, fates }
     }
 
-    /// The next fate, which is used up.
+    /// Returns the next fate, and uses it up.
     fn next_fate(&mut self) -> Fate
         ensures { inner_of self.new ≡ inner_of self.old }
     {

@@ -1,4 +1,4 @@
-//! The answers that were sent, which stand in the entries of the log, and their delivery.
+//! The answers that were sent, and their delivery. They stand in the entries of the log.
 ghost use Rattle.std.specs.Prelude.{◌≡◌, IfOk, IsSome, OnErr, OnOk, option_and_then, option_copied, slice_get};
 ghost use Rattle.cog_client.specs.Client.{name_of};
 ghost use Rattle.world.specs.World.{answer_in, is_for};
@@ -14,7 +14,7 @@ use cog_server::{Answer, Server};
 use http_range::Memory;
 use std::alloc::Global;
 
-/// The answer of this number, by the places of the entries that have one.
+/// Returns the answer with the number `number`, if there is one. `places` are the indices of the entries that have an answer.
 pub fn answer_of<'a>(entries: &'a [Entry], places: &[usize], number: u32) -> Option<&'a Answer>
     ensures { option_copied result ≡ option_and_then (answer_at entries.now) (slice_get places.now number) }
 {
@@ -23,7 +23,7 @@ pub fn answer_of<'a>(entries: &'a [Entry], places: &[usize], number: u32) -> Opt
     entry.effect.answer()
 }
 
-/// The first bytes of a text, or all.
+/// Returns the first `cut` bytes of a text, or all of it.
 fn front(text: &[u8], cut: Option<u32>) -> &[u8]
     ensures { result.now ≡ cut_at cut text.now }
 {
@@ -33,7 +33,7 @@ fn front(text: &[u8], cut: Option<u32>) -> &[u8]
     }
 }
 
-/// The answer carries the tag of a file of the client's name, or none.
+/// Returns whether an answer carries the ETag of a file of the client's name, or none.
 fn is_for(client: &Client, answer: &Answer) -> bool
     ensures { result ≡ is_for answer.now (name_of client.now) }
 {
@@ -43,7 +43,8 @@ fn is_for(client: &Client, answer: &Answer) -> bool
     }
 }
 
-/// Client i gets the front of an answer that was sent, unless it is for another name.
+/// Delivers the first `cut` bytes of an answer to client `i`, or all of it. The event is skipped where there is no such answer or client,
+/// and where the answer is for another name. Fails where no memory is left.
 pub fn deliver_at(
     alloc: Global,
     server: &Server,
@@ -70,7 +71,7 @@ pub fn deliver_at(
     call_at(alloc, server, 0, clients, i, Call::Deliver(text), how)
 }
 
-/// Notes the place of the next entry, where it has an answer.
+/// Appends `place`, the index of the next entry, where its effect has an answer. Fails where no memory is left.
 pub fn keep(places: &mut Vec<usize>, place: usize, effect: &Effect) -> Result<(), Memory>
     ensures { OnOk result (places.new.items ≡ noted (answer_in effect.now) place places.old.items) }
 {

@@ -17,10 +17,12 @@ use http_range::Memory;
 use std::alloc::Global;
 use tiff_dir::Query;
 
-/// What an event has a client do.
+/// Says what an event has a client do.
 #[derive(Clone, Copy)]
 pub enum Call<'a> {
+    /// It is asked this query.
     Open(Query),
+    /// It forgets everything but its name and its query.
     Forget,
     /// Its request is answered.
     AskFrom,
@@ -30,14 +32,14 @@ pub enum Call<'a> {
     Deliver(&'a [u8]),
 }
 
-/// A report stands.
+/// Returns whether a report stands.
 pub fn has_report(client: &Client) -> bool
     ensures { result ≡ is_some (report_of client.now) }
 {
     client.report().is_some()
 }
 
-/// The report that stands, where none stood before.
+/// Returns a copy of the report that stands, unless one stood before (`had`). Fails where no memory is left.
 pub fn new_report(alloc: Global, client: &Client, had: bool) -> Result<Option<Report>, Memory>
     ensures newly { IfOk result (λ o. option_map told o ≡ (if had then None else option_map told (report_of client.now))) }
     ensures stands { IfOk result (λ o. StandsTrue client.now) }
@@ -52,7 +54,7 @@ pub fn new_report(alloc: Global, client: &Client, had: bool) -> Result<Option<Re
     }
 }
 
-/// A client is made, or the event is skipped where its name or its blocks are refused.
+/// Makes a client, or skips the event where its name or its blocks are refused. Fails where no memory is left, and then the clients stay.
 pub fn make_client(
     alloc: Global,
     clients: &mut Vec<Client>,
@@ -74,7 +76,8 @@ pub fn make_client(
     }
 }
 
-/// Client i does this, and gets answers so: what the event did.
+/// Does what an event says with client `i`, and hands answers over as `how` says. Returns what the event did. Fails where no memory is
+/// left.
 fn effect_of(
     server: &Server,
     number: usize,
@@ -113,7 +116,8 @@ fn effect_of(
     }
 }
 
-/// Client i does this, and gets answers so, if there is such a client; what newly stands is told.
+/// Does what an event says with client `i`, and hands answers over as `how` says. The event is skipped where there is no such client.
+/// Returns the entry, with a report that newly stands. Fails where no memory is left.
 pub fn call_at(
     alloc: Global,
     server: &Server,

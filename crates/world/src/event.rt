@@ -5,7 +5,7 @@ use http_range::{Span, Tag};
 use std::alloc::Global;
 use tiff_dir::Query;
 
-/// What may happen.
+/// Says what happens.
 #[derive(Drop)]
 pub enum Event {
     /// A file is published under a name.
@@ -15,7 +15,7 @@ pub enum Event {
     },
     /// The server is restarted in this epoch, without files, if the epoch is greater than the current one.
     Epoch(u32),
-    /// A client of this name is made, whose cache has so many blocks.
+    /// A client of this name is made, whose cache has `blocks` blocks.
     NewClient {
         name: Vec<u8>,
         blocks: u32,
@@ -31,8 +31,8 @@ pub enum Event {
     Ask(Vec<u8>),
     /// The server answers this client's request, if it has one. The answer is kept, as every one is.
     AskFrom(u32),
-    /// Client `client` gets the first `cut` bytes of an answer that was kept, or all of it. One that carries the tag of a file
-    /// of another name is not delivered.
+    /// Client `client` gets the first `cut` bytes of an answer that was kept, or all of it. An answer that carries the ETag of a file of
+    /// another name isn't delivered.
     Deliver {
         client: u32,
         answer: u32,
@@ -40,17 +40,17 @@ pub enum Event {
     },
     /// The server answers this client's request, if it has one, and the client gets the answer whole.
     Exchange(u32),
-    /// The server answers whether the file still has the tag of this client's revision, if it has one.
+    /// The server answers whether the file still has the ETag of this client's revision, if it has one.
     Check(u32),
 }
 
-/// A client's request and its answer.
+/// Holds a client's request and its answer.
 #[derive(Drop)]
 pub struct AnsweredRequest {
     pub client: u32,
-    /// The bytes that are asked for.
+    /// The byte range that is asked for.
     pub span: Span,
-    /// The tag of If-Range.
+    /// The ETag of If-Range.
     pub tag: Option<Tag>,
     /// The request's text.
     pub request: Vec<u8>,
@@ -59,31 +59,37 @@ pub struct AnsweredRequest {
     pub answer: Answer,
 }
 
-/// A client's check and its answer.
+/// Holds a client's check and its answer.
 #[derive(Drop)]
 pub struct AnsweredCheck {
     pub client: u32,
-    /// The tag of the client's revision.
+    /// The ETag of the client's revision.
     pub tag: Tag,
     /// The check's text.
     pub request: Vec<u8>,
     /// The answer's number: answers are counted from 0.
     pub number: usize,
     pub answer: Answer,
-    /// What the answer says of the tag.
+    /// What the answer says of the ETag.
     pub current: Current,
 }
 
-/// What an event did.
+/// Says what an event did.
 #[derive(Drop)]
 pub enum Effect {
+    /// Nothing: what the event needs isn't there, or isn't allowed.
     Skipped,
+    /// The file was published under this ETag.
     Published(Tag),
+    /// The file was refused, for this reason.
     Refused(PublishError),
+    /// The server was started anew in this epoch.
     Epoch(u32),
     /// The new client's number: clients are counted from 0.
     Made(usize),
+    /// This client was asked its query.
     Opened(u32),
+    /// This client forgot what it held.
     Forgot(u32),
     /// The message has this answer, with its number: answers are counted from 0.
     Answered {
@@ -92,17 +98,21 @@ pub enum Effect {
     },
     /// The client had no request.
     Nothing(u32),
+    /// A client's request was answered.
     Asked(AnsweredRequest),
+    /// A client took an answer, or a front of one.
     Delivered {
         client: u32,
         delivered: Delivered,
     },
+    /// A client's request was answered, and the client took the answer.
     Exchanged {
         asked: AnsweredRequest,
         delivered: Delivered,
     },
     /// The client had no revision to check.
     Unchecked(u32),
+    /// A client's check was answered.
     Checked(AnsweredCheck),
 }
 
@@ -110,7 +120,7 @@ impl Effect {
     ghost use Rattle.std.specs.Prelude.{◌≡◌, option_copied};
     ghost use Rattle.world.specs.World.{answer_in};
 
-    /// The answer that the event has sent.
+    /// Returns the answer that the event has sent, if it has sent one.
     pub fn answer(&self) -> Option<&Answer>
         ensures { option_copied result ≡ answer_in self.now }
     {
@@ -123,14 +133,14 @@ impl Effect {
     }
 }
 
-/// What is logged of an event: what it did, and the report that newly stands.
+/// Holds what is logged of an event: what it did, and the report that newly stands.
 #[derive(Drop)]
 pub struct Entry {
     pub effect: Effect,
     pub report: Option<Report>,
 }
 
-/// The entries of a schedule, one for each event, and the clients as the run leaves them.
+/// Holds the entries of a schedule, one for each event, and the clients as the run leaves them.
 #[derive(Drop)]
 pub struct Log {
     pub entries: Vec<Entry>,
@@ -140,7 +150,7 @@ pub struct Log {
 impl Log {
     ghost use Rattle.std.specs.Prelude.{◌≡◌, []};
 
-    /// An empty log. It takes no memory.
+    /// Makes an empty log. It takes no memory.
     pub fn new(alloc: Global) -> Log
         ensures entries { result.entries.items ≡ [] }
         ensures clients { result.clients.items ≡ [] }

@@ -16,7 +16,7 @@ use cog_client::Client;
 use cog_server::Server;
 use http_range::{Memory, Span, Tag};
 
-/// The tag of the client's revision.
+/// Returns the ETag of the client's revision, if it reads one.
 fn tag_of(client: &Client) -> Option<Tag>
     ensures { result ≡ tag_of client.now }
 {
@@ -26,7 +26,7 @@ fn tag_of(client: &Client) -> Option<Tag>
     }
 }
 
-/// The server's answer to a client's request, under this number.
+/// Returns the server's answer to a client's request, as the answer `number`. Fails where no memory is left.
 fn answer_request(
     server: &Server,
     number: usize,
@@ -50,7 +50,7 @@ fn answer_request(
     })
 }
 
-/// The client's request, if it has one, and the server's answer.
+/// Returns the client's request and the server's answer to it, or `None` where the client has no request. Fails where no memory is left.
 pub fn ask_from(
     server: &Server,
     number: usize,
@@ -70,7 +70,7 @@ pub fn ask_from(
     Ok(Some(asked))
 }
 
-/// Delivers all of the answer, if there is one.
+/// Delivers all of an answer, if there is one. Returns what that did. Fails where no memory is left.
 pub fn deliver_whole(
     client: &mut Client,
     i: u32,
@@ -89,7 +89,7 @@ pub fn deliver_whole(
     Ok(Effect::Exchanged { asked, delivered })
 }
 
-/// The server's answer to the client's check, and what it says of the tag.
+/// Returns the server's answer to the client's check, and what it says of the ETag. Fails where no memory is left.
 fn answer_check(
     server: &Server,
     number: usize,
@@ -115,7 +115,7 @@ fn answer_check(
     })
 }
 
-/// The client's check, if it has one, and the server's answer.
+/// Returns the client's check and the server's answer to it, if the client has a check. Fails where no memory is left.
 fn check_one(server: &Server, number: usize, client: &Client, i: u32) -> Result<Effect, Memory>
     ensures { IfOk result (λ effect. (o : Option AnsweredCheck) × IsCheckedKeeping server.now.catalogue number i client.now o effect) }
 {
@@ -127,7 +127,7 @@ fn check_one(server: &Server, number: usize, client: &Client, i: u32) -> Result<
     Ok(Effect::Checked(check))
 }
 
-/// The server answers the check of client i, if it has one.
+/// Answers the check of client `i`, if it has one. The event is skipped where there is no such client. Fails where no memory is left.
 pub fn check_at(server: &Server, number: usize, clients: &[Client], i: u32) -> Result<Entry, Memory>
     ensures ok { IfOk result (λ n. IsCheckBy (slice_get clients.now i) server.now.catalogue number i n clients.now clients.now) }
     ensures there { OnErr result (IsSome (slice_get clients.now i)) }

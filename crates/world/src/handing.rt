@@ -1,4 +1,4 @@
-//! An answer is handed over to a client: whole, or in pieces.
+//! How an answer is handed over to a client: whole, or in pieces.
 ghost use Rattle.std.specs.Prelude.{ℕ, List, IfOk, OnErr};
 ghost use Rattle.http_range.specs.Honest.{IsFront};
 ghost use Rattle.cog_client.specs.Keeps.{DeliversKeeping, StopsDelivery};
@@ -6,16 +6,17 @@ ghost use Rattle.cog_client.specs.Keeps.{DeliversKeeping, StopsDelivery};
 use cog_client::{Client, Delivered};
 use extents::Memory;
 
-/// How answers are handed over.
+/// Says how answers are handed over.
 #[derive(Clone, Copy)]
 pub enum Handing {
+    /// Whole, by one call.
     Whole,
-    /// In pieces of so many bytes, at least one each, and what is left.
+    /// In pieces of this many bytes, but at least one each. The last piece is what is left.
     Pieces(usize),
 }
 
-/// Hands an answer, or a front of one, over to a client, which takes it the same either way. Want of memory (`Memory`, the only
-/// error) may come before the last piece: then a front of it was delivered.
+/// Hands an answer, or a front of one, over to a client, which takes it the same either way. Fails where no memory is left, which may be
+/// before the last piece: then a front of it was delivered.
 pub fn hand_over(client: &mut Client, text: &[u8], how: Handing) -> Result<Delivered, Memory>
     ensures ok { IfOk result (λ what. DeliversKeeping client.old text.now what client.new) }
     ensures err { OnErr result ((front : List ℕ) × IsFront front text.now × StopsDelivery client.old front client.new) }
@@ -26,7 +27,7 @@ pub fn hand_over(client: &mut Client, text: &[u8], how: Handing) -> Result<Deliv
     }
 }
 
-/// Feeds an answer in pieces of so many bytes, at least one each.
+/// Feeds an answer in pieces of `size` bytes, but at least one each. Fails where no memory is left.
 fn deliver_pieces(client: &mut Client, text: &[u8], size: usize) -> Result<Delivered, Memory>
     ensures ok { IfOk result (λ what. DeliversKeeping client.old text.now what client.new) }
     ensures err { OnErr result ((front : List ℕ) × IsFront front text.now × StopsDelivery client.old front client.new) }

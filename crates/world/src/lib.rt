@@ -1,5 +1,5 @@
-//! The world: a schedule of publications, server restarts, clients, openings, requests and answers is run, whatever is lost,
-//! cut, repeated or reordered on the way, and what each event did is logged.
+//! Runs a schedule of publications, server restarts, clients, queries, requests and answers, and logs what each event did. Any answer may
+//! be lost, cut, repeated or reordered on the way.
 #![tactic(auto)]
 
 mod answers;

@@ -8,7 +8,7 @@ use cog_server::{PublishError, Server};
 use http_range::Memory;
 use std::alloc::Global;
 
-/// An entry without a report.
+/// Returns an entry without a report.
 pub fn quiet(effect: Effect) -> Entry
     ensures effect { result.effect ≡ effect }
     ensures report { told_of result ≡ None }
@@ -19,7 +19,7 @@ pub fn quiet(effect: Effect) -> Entry
     }
 }
 
-/// A file is published, or refused.
+/// Publishes a file, or logs why it is refused. Fails where no memory is left.
 pub fn publish(
     alloc: Global,
     server: &mut Server,
@@ -36,7 +36,7 @@ pub fn publish(
     }
 }
 
-/// The server is started anew in a greater epoch, or the event is skipped.
+/// Starts the server anew with `epoch`, or skips the event where that epoch isn't greater.
 pub fn restart(alloc: Global, server: &mut Server, epoch: u32) -> Entry
     ensures { Restarts epoch result server.old server.new }
 {
@@ -48,7 +48,7 @@ pub fn restart(alloc: Global, server: &mut Server, epoch: u32) -> Entry
     }
 }
 
-/// Answers a message from the server's files, under this number.
+/// Answers a message from the server's files, as the answer `number`. Fails where no memory is left.
 pub fn ask(server: &Server, number: usize, message: &[u8]) -> Result<Entry, Memory>
     ensures { IfOk result (λ n. Answers server.now.catalogue number message.now n) }
 {

@@ -26,8 +26,8 @@ use http_range::{
 use std::alloc::Global;
 use tiff_dir::law_one_window;
 
-/// Runs the events in order and logs each. Want of memory ends the run: then the log has the entries of as many first events, not of
-/// all.
+/// Runs the events in order and logs each. Fails where no memory is left, which ends the run. The log then has the entries of the first
+/// events, but not of all.
 ///
 /// ```
 /// let events = vec![in rt.alloc(); Event::Epoch(1), Event::Publish { name, file }]?;
@@ -41,45 +41,45 @@ pub fn run(alloc: Global, events: &[Event], log: &mut Log) -> Result<(), Memory>
     // The log has an entry for each event.
     ensures whole { OnOk result (length log.new.entries.items ≡ length events.now) }
 
-    // Each report answers the query of its client's last opening, and is true of one file that was published under the
-    // client's name: of the one whose tag it has.
+    // Each report answers the query of its client's last opening. It is true of one file that was published under the client's name: of the
+    // one whose ETag it has.
     ensures true_reports { OnOk result (AtEach IsTrueEntry start events.now log.new.entries.items) }
 
-    // Reports of one tag for one query are equal windows, or tell the same levels, keys and geo fields, or are both faults.
+    // Two reports of one ETag for one query are equal windows, or have the same levels, keys and geo fields, or are both faults.
     ensures alike { OnOk result (AreAlike log.new.entries.items) }
 
-    // Each request is its client's request, for what its query needs: whole blocks of one range that it needs of the file that
-    // it reads, or the first 65,536 bytes.
+    // Each request, checks aside, is its client's request, for what its query needs. That is whole blocks of one range that it needs of
+    // the file that it reads, or the first 65,536 bytes where it has no revision.
     ensures needed { OnOk result (AtEach IsNeededEntry start events.now log.new.entries.items) }
 
-    // A client that opens a query of a name that the server has and then exchanges, with nothing between, has its report by
-    // exchange cost + 1, where cost sums the blocks that each range touches which the query needs of that file.
+    // A client opens a query of a name that the server has, and then makes exchanges with nothing between. It has its report by exchange
+    // cost + 1. Cost is the sum, over the ranges that the query needs of that file, of the blocks that each range touches.
     ensures progress { OnOk result (AllReport events.now log.new.entries.items) }
 
-    // A check says "same" exactly where the catalogue of that moment has the client's tag under its name.
+    // A check says "same" exactly where the catalogue of that moment has the client's ETag under its name.
     ensures checked { OnOk result (AtEach IsExactEntry start events.now log.new.entries.items) }
 
-    // No two publications of the whole schedule have one tag, and each answer is honest for its name from when it is sent,
-    // whatever is published later.
+    // No two publications of the whole schedule have one ETag. Each answer is honest for its name from when it is sent, whatever is
+    // published later.
     ensures distinct { OnOk result (HasDistinctTags (after_all start events.now log.new.entries.items).book) }
     ensures honest { OnOk result (AtEach IsHonestEntry start events.now log.new.entries.items) }
 
-    // Each client that the log leaves and that reads a revision has the name, tag and length of one publication of the whole
-    // schedule, and its blocks are that file's: after want of memory too, and then of one of the events before.
+    // Each client that the log leaves, and that reads a revision, has the name, ETag and length of one publication of the whole schedule.
+    // Its blocks are that file's. This holds after an error, too: the publication is then of one of the events that are logged.
     ensures clients { AreOfBook log.new.clients.items (after_all start events.now log.new.entries.items).book }
 
-    // The entries, and the clients that the log leaves, are those that the schedule makes and what a caller sees of the clients' calls:
-    // an event makes a client, or changes only the one that it names, and a report in an entry is that client's.
+    // The schedule, and what a caller sees of the clients' calls, make the entries and the clients that the log leaves. An event makes a
+    // client, or changes only the one that it names. A report in an entry is that client's.
     ensures logged { OnOk result (Runs start [] events.now log.new.entries.items log.new.clients.items) }
 
-    // After want of memory the entries are those of as many first events, not of all, and of these all this holds. The clients are those
-    // after these events, but for what the next event did.
+    // After an error the entries are those of the first events, but not of all, and all this holds of them. The clients are those after
+    // these events, but for what the next event did.
     ensures memory { OnErr result (IsBeginning events.now log.new.entries.items log.new.clients.items) }
 {
     run_with(alloc, events, Handing::Whole, log)
 }
 
-/// Runs the events as `run` does, but hands each answer over in pieces of `piece` bytes, at least one each. All holds that holds of
+/// Runs the events as `run` does, but hands each answer over in pieces of `piece` bytes, but at least one each. All holds that holds of
 /// `run`. A log can't show the size of the pieces, since a client takes an answer the same way however it is cut.
 pub fn run_cut(alloc: Global, events: &[Event], piece: usize, log: &mut Log) -> Result<(), Memory>
     requires entries { log.old.entries.items ≡ [] }
@@ -100,8 +100,8 @@ pub fn run_cut(alloc: Global, events: &[Event], piece: usize, log: &mut Log) -> 
     run_with(alloc, events, Handing::Pieces(piece), log)
 }
 
-/// Runs the events as `run` does, and hands each answer over as `how` says. Beside what `run` says of the log it says all that the
-/// contracts of the clients' calls say of each event, and what each client knows that the log leaves.
+/// Runs the events as `run` does, and hands each answer over as `how` says. Its contract has what that of `run` says of the log. It adds
+/// all that the contracts of the clients' calls say of each event, and what each client that the log leaves knows.
 pub fn run_with(alloc: Global, events: &[Event], how: Handing, log: &mut Log) -> Result<(), Memory>
     requires entries { log.old.entries.items ≡ [] }
     requires clients { log.old.clients.items ≡ [] }
@@ -109,11 +109,11 @@ pub fn run_with(alloc: Global, events: &[Event], how: Handing, log: &mut Log) ->
     ensures logged { OnOk result (Runs start [] events.now log.new.entries.items log.new.clients.items) }
     ensures kept { OnOk result (RunsKeeping start [] events.now log.new.entries.items log.new.clients.items) }
 
-    // Half-read directories, arrays and samples that a client holds are of the publication too: it can be gone on with.
+    // What a client holds in part, of directories, arrays and samples, is of the publication too, so that the client can go on.
     ensures agree { AllAgree log.new.clients.items (after_all start events.now log.new.entries.items).book }
     ensures left { AreOfBook log.new.clients.items (after_all start events.now log.new.entries.items).book }
 
-    // After want of memory the event that isn't logged was done whole, or left within one of its calls.
+    // After an error the event that isn't logged was done as a whole, or was left within one of its calls.
     ensures memory { OnErr result (IsBeginning events.now log.new.entries.items log.new.clients.items) }
     ensures stops { OnErr result (StopsWithin events.now log.new.entries.items log.new.clients.items) }
 {
@@ -137,7 +137,7 @@ pub fn run_with(alloc: Global, events: &[Event], how: Handing, log: &mut Log) ->
     Ok(())
 }
 
-/// What the crates below say of their definitions.
+/// States what the crates below say of their definitions.
 fn lower_laws()
     ensures { LowerLaws }
 {
@@ -156,7 +156,8 @@ fn lower_laws()
     law_whole_answers_bring_on();
 }
 
-/// One event, after these entries; the answers that were sent stand at these places of them.
+/// Does one event, after the entries `entries`. `places` are the indices of those that have an answer. Returns the event's entry. Fails
+/// where no memory is left.
 fn step(
     alloc: Global,
     server: &mut Server,
