@@ -1,18 +1,24 @@
 """The Python package, installed for tests into a folder of its own."""
-import os, shutil, subprocess, sys
+import importlib.util, os, shutil, subprocess, sys
 
 from products import CORE, TOP
 
 TESTS = os.path.join(TOP, 'python/tests')
 
-def with_numpy(name):
+def missing_for_package():
+    """What isn't there of what the package is installed with."""
+    return [name for name in ('numpy', 'pip', 'setuptools') if importlib.util.find_spec(name) is None]
+
+def seek_numpy():
     """Goes on in Debian's Python, where this one lacks numpy."""
-    import importlib.util
-    if importlib.util.find_spec('numpy') is not None:
-        return
-    if sys.executable == '/usr/bin/python3' or not os.path.exists('/usr/bin/python3'):
+    if importlib.util.find_spec('numpy') is None and sys.executable != '/usr/bin/python3' and os.path.exists('/usr/bin/python3'):
+        os.execv('/usr/bin/python3', ['/usr/bin/python3', *sys.argv])
+
+def with_numpy(name):
+    """Goes on in a Python that has numpy, or says that none has."""
+    seek_numpy()
+    if importlib.util.find_spec('numpy') is None:
         sys.exit(f'{name}: numpy is missing (apt-get install python3-numpy python3-rasterio)')
-    os.execv('/usr/bin/python3', ['/usr/bin/python3', *sys.argv])
 
 def install(place):
     """Installs the package into this folder from a copy of its own, and puts it and the tests' modules first among the paths."""
