@@ -5,8 +5,8 @@ from typing import Any, Optional, Tuple
 
 
 class Error(Exception):
-    """Why a file isn't read. `where` is the URL or the path of the file that was asked, and stands before the sentence, where its
-    characters that aren't printable are escaped."""
+    """Why a file isn't read. `where` is the URL or the path of the file that was asked for. It stands before the sentence, with the
+    characters escaped that aren't printable."""
     where: Optional[str] = None
 
     def __str__(self) -> str:
@@ -15,12 +15,12 @@ class Error(Exception):
 
 
 def _printable(text: str) -> str:
-    """The text, whose characters that aren't printable are escaped as repr escapes them."""
+    """Returns the text with the characters escaped that aren't printable, as repr escapes them."""
     return ''.join(character if character.isprintable() else repr(character)[1:-1] for character in text)
 
 
 class BadUrl(Error, ValueError):
-    """The URL is outside the rules: `rule` says which."""
+    """The URL breaks a rule, which `rule` names."""
 
     def __init__(self, url: str, rule: str) -> None:
         super().__init__(f'{url!r}: {rule}')
@@ -36,8 +36,8 @@ class OutOfMemory(Error, MemoryError):
 
 
 class Lost(Error, OSError):
-    """No answer came, or none that brought anything, in three exchanges one after another; or the file was replaced three times while it
-    was read; or 65,536 exchanges brought no report."""
+    """Three exchanges one after another brought no answer, or answers that brought nothing. Or the file was replaced three times while it
+    was read, or 65,536 exchanges brought no report."""
 
 
 class Late(Lost):
@@ -47,11 +47,12 @@ class Late(Lost):
 class NotUsed(Error):
     """The server's answer can't be used.
 
-    `reason` is its number in docs/PROFILE.md: 1 cut, 2 head, 3 status (`status` is that of the answer), 4 no tag, 5 weak tag,
-    6 long tag, 7 no range, 8 no length, 9 coding, 10 another revision, 11 another length, 12 not asked."""
+    `reason` is the reason's number in docs/PROFILE.md: 1 cut, 2 head, 3 status, 4 no ETag, 5 weak ETag, 6 long ETag, 7 no range. It is 8
+    for no length, 9 coding, 10 another revision, 11 another length, 12 not asked. `status` is the answer's status code, or None if its head
+    wasn't read."""
 
-    WORDS = {1: 'its head is cut', 2: "it has no head that is read", 3: 'its status', 4: 'it has no tag', 5: 'its tag is weak',
-             6: 'its tag is too long', 7: 'it has no range', 8: 'it has no length', 9: 'it is coded',
+    WORDS = {1: 'its head is cut', 2: "it has no head that is read", 3: 'its status', 4: 'it has no ETag', 5: 'its ETag is weak',
+             6: 'its ETag is too long', 7: 'it has no range', 8: 'it has no length', 9: 'it is coded',
              10: 'it is a part of another revision', 11: 'its file has another length', 12: 'it is not what was asked'}
 
     def __init__(self, reason: int, status: Optional[int] = None) -> None:
@@ -73,7 +74,7 @@ NAMES = {254: 'NewSubfileType', 256: 'ImageWidth', 257: 'ImageLength', 258: 'Bit
 class FileFault(Error):
     """What is wrong with the file, or with what is asked of it.
 
-    `number` is its number in docs/PROFILE.md; `tag` is the TIFF field that it is about, for the faults that are about one."""
+    `number` is its number in docs/PROFILE.md. `tag` is the tag of the TIFF field that it is about, or None where it is about none."""
     number = 0
 
     def __init__(self, tag: Optional[int] = None) -> None:
@@ -179,5 +180,5 @@ FAULTS = {fault.number: fault for fault in FileFault.__subclasses__()}
 
 
 def fault_of(number: int, field: int) -> FileFault:
-    """The fault of a number, about a field, or about none where that is 0."""
+    """Returns the fault with this number. `field` is the tag of the TIFF field that it is about, or 0 for none."""
     return FAULTS[number](field or None)

@@ -355,7 +355,10 @@ class File(Raster):
         """Exchanges until a report stands, or the reports of many windows are read."""
         self._failures = self._restarts = 0
         core = self._core
-        self._source.run(core, self._judge, core.carry if many is None else lambda wire: core.read(wire, many))
+        if many is None:
+            return self._source.run(core, self._judge, core.carry)
+        windows = many
+        self._source.run(core, self._judge, lambda wire: core.read(wire, windows))
 
     def _told(self) -> Tuple[Report, str]:
         """The report that stands, with its tag, or its fault, which is raised."""

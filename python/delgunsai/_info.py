@@ -1,4 +1,4 @@
-"""What a file tells of its levels and its place on the ground."""
+"""What a file says of its levels and its place on the ground."""
 from __future__ import annotations
 
 import dataclasses
@@ -13,7 +13,7 @@ class Info:
     """What georeferences an image (OGC 19-008), as it stands in the file."""
 
     tag: str
-    """The tag of the file that this is of."""
+    """The ETag of the file that this is of."""
     levels: Tuple[Tuple[int, int], ...]
     """Columns and rows of each level, the largest first."""
     minor: int
@@ -29,7 +29,7 @@ class Info:
 
     @property
     def transform(self) -> Optional[Tuple[float, ...]]:
-        """The old name of `model_transformation`, which isn't what rasterio calls transform: that is `File.transform`."""
+        """The old name of `model_transformation`. What rasterio calls transform is `File.transform`."""
         return self.model_transformation
 
 
@@ -50,7 +50,7 @@ def _value(kind: str, rest: str) -> Value:
 
 
 def read_info(text: str) -> Info:
-    r"""The info of the lines that `cogread info` prints.
+    r"""Reads the lines that `cogread info` prints, and returns them as an Info.
 
     >>> read_info('tag "1-1"\nlevel 0 64 32\nminor 0\nkey 1024 short 2\nscale 3ff0000000000000\n').keys
     {1024: 2}

@@ -16,8 +16,8 @@ Abort = Callable[[threading.Event], None]
 
 
 def side_by_side(shares: List[Share], aborts: List[Abort]) -> Set[str]:
-    """Runs these at once, the first in this thread, and gives what all of them give. Where one raises, the others are told to stop, and what
-    they wait for is ended. No thread is left at work."""
+    """Runs `shares` at once, the first in this thread, and returns the union of what they return. Where one raises, the others have to
+    stop, and `aborts` end what they wait for. No thread is left at work."""
     stop = threading.Event()
     process = os.getpid()
     tags: Set[str] = set()
@@ -26,7 +26,7 @@ def side_by_side(shares: List[Share], aborts: List[Abort]) -> Set[str]:
     ended: List[None] = []
 
     def end() -> bool:
-        """Says whether a thread is at work still; one that begins later stops at once, and a process that was forked has none."""
+        """Returns whether a thread is still at work. One that begins later stops at once, and a process that was forked has none."""
         stop.set()
         for abort in aborts:
             abort(stop)
@@ -70,7 +70,7 @@ def side_by_side(shares: List[Share], aborts: List[Abort]) -> Set[str]:
 
 
 def _started(threads: List[threading.Thread]) -> int:
-    """Starts these threads, and says how many can be had: none at the interpreter's end."""
+    """Starts these threads in order, and returns how many could be started: none at the interpreter's end."""
     for count, thread in enumerate(threads):
         try:
             thread.start()
@@ -82,8 +82,8 @@ def _started(threads: List[threading.Thread]) -> int:
 
 
 def _end_all(end: Callable[[], bool]) -> None:
-    """Ends threads, whatever signal handlers raise meanwhile; the last of that is raised. A join that they interrupt may tell wrongly that
-    a thread has ended (bpo-45274)."""
+    """Ends threads, whatever signal handlers raise meanwhile, and raises the last of that. A join that they interrupt may return though its
+    thread hasn't ended (bpo-45274)."""
     raised: Optional[BaseException] = None
     goes_on = True
     while goes_on:

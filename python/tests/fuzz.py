@@ -15,9 +15,9 @@ from unittest import mock
 
 import delgunsai
 import numpy
+from answers import head, served
 from delgunsai import _file, _sources
 from files import plain
-from servers import head, served
 from support import in_python
 
 TRUE, FALSE, TAG, END = 7, 238, b'"t"', b'\r\n\r\n'

@@ -1,6 +1,5 @@
 """Servers: cogserve, nginx with TLS, one that cuts answers, and one whose answers a test makes."""
 import os
-import re
 import socket
 import socketserver
 import ssl
@@ -244,23 +243,3 @@ class Batching(socketserver.BaseRequestHandler):
                     return
         except OSError:
             pass
-
-
-def head(status, *fields):
-    return b'\r\n'.join([b'HTTP/1.1 ' + status, *fields, b'', b''])
-
-
-def served(request, text, tag=b'"1"'):
-    """The answer of a server that has this text under this tag."""
-    length = b'Content-Length: %d'
-    if request.startswith(b'HEAD '):
-        same = b'If-None-Match: ' + tag + b'\r\n' in request
-        return head(b'304 Not Modified' if same else b'200 OK', b'ETag: ' + tag, length % len(text))
-    first, last = map(int, re.search(rb'bytes=([0-9]+)-([0-9]+)', request).groups())
-    if b'If-Range: ' in request and b'If-Range: ' + tag + b'\r\n' not in request:
-        return head(b'200 OK', b'ETag: ' + tag, length % len(text)) + text
-    if first >= len(text):
-        return head(b'416 Range Not Satisfiable', b'Content-Range: bytes */%d' % len(text), length % 0)
-    part = text[first:last + 1]
-    return head(b'206 Partial Content', b'ETag: ' + tag, b'Content-Range: bytes %d-%d/%d' % (first, first + len(part) - 1, len(text)),
-                length % len(part)) + part

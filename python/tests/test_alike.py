@@ -5,7 +5,8 @@ import unittest
 import delgunsai
 import test_network
 import test_signals
-from servers import Ends, Made, Resets, Silent, head, served
+from answers import head, served
+from servers import Ends, Made, Resets, Silent
 from support import InPython, in_python
 from test_network import TEXT, cut_out, right, tall
 

@@ -11,9 +11,10 @@ from unittest import mock
 
 import delgunsai
 import numpy
+from answers import served
 from delgunsai import _disk
 from files import plain
-from servers import Batching, Cogserve, Cutting, Made, Nginx, Resets, served
+from servers import Batching, Cogserve, Cutting, Made, Nginx, Resets
 from support import EXAMPLE, FOLDER, RASTERIO, TLS, free_port, needs
 
 

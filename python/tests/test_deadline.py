@@ -13,7 +13,8 @@ from unittest import mock
 
 import delgunsai
 import numpy
-from servers import Made, Secure, Silent, served
+from answers import served
+from servers import Made, Secure, Silent
 from support import EXAMPLE, FOLDER, TLS, needs
 from test_network import SAMPLES, TEXT, right, tall
 

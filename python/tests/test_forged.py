@@ -9,9 +9,10 @@ from unittest import mock
 
 import delgunsai
 import numpy
+from answers import served
 from delgunsai import _sources
 from files import plain
-from servers import Made, Making, Secure, served
+from servers import Made, Making, Secure
 from support import TLS, InPython, needs
 
 TRUE, FALSE, TAG = 7, 238, b'"t"'

@@ -15,9 +15,10 @@ from unittest import mock
 
 import delgunsai
 import numpy
+from answers import served
 from delgunsai import _core, _file
 from files import noise, plain, ten_files, windows_of
-from servers import Cogserve, Cutting, Made, Nginx, served
+from servers import Cogserve, Cutting, Made, Nginx
 from support import EXAMPLE, FOLDER, RASTERIO, TLS, in_python, needs
 
 SAMPLES = [noise(1000), noise(1000)[::-1].copy()]

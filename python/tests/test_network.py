@@ -12,9 +12,10 @@ from unittest import mock
 
 import delgunsai
 import numpy
+from answers import head, served
 from delgunsai import _sources
 from files import noise, plain
-from servers import Batching, Ends, Made, Nginx, Resets, head, served
+from servers import Batching, Ends, Made, Nginx, Resets
 from support import CORE, EXAMPLE, FOLDER, HEAP, TLS, TOP, in_python, needs
 
 SAMPLES = noise(1000)

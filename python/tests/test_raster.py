@@ -10,9 +10,10 @@ import unittest
 
 import delgunsai
 import numpy
+from answers import served
 from delgunsai import _ground, _png, _raster
 from files import PLAIN, TRANSLATE, as_rasterio, noise, plain, ten_files, windows_of
-from servers import Made, served
+from servers import Made
 from support import EXAMPLE, FOLDER, HERE, RASTERIO, needs
 
 

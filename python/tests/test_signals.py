@@ -12,7 +12,8 @@ import unittest
 from unittest import mock
 
 import delgunsai
-from servers import Made, served
+from answers import served
+from servers import Made
 from support import EXAMPLE
 from test_network import TEXT, as_forked, right, tall
 

@@ -15,9 +15,10 @@ import urllib.parse
 
 import delgunsai
 import numpy
+from answers import head, served
 from delgunsai.view import _server
 from files import as_rasterio, noise, plain, ten_files
-from servers import Cogserve, Made, head, served
+from servers import Cogserve, Made
 from support import EXAMPLE, FOLDER, RASTERIO, needs
 
 PACKAGE = os.path.dirname(os.path.dirname(delgunsai.__file__))

@@ -15,7 +15,7 @@ from numpy.typing import NDArray
 from .._file import File
 from .._ground import Crs, Transform, bounds_of, crs_of, transform_of
 from .._info import Info
-from .._open import open as open_url, open_file
+from .._open import URL, open as open_url, open_file
 from .._png import png, stretched
 from .._raster import Replaced, percentiles_of
 
@@ -43,10 +43,10 @@ class Changed(Exception):
 
 
 class Reading(Exception):
-    """The first read of the file goes on, since `seconds`."""
+    """The first read of the file isn't over after `seconds`."""
 
     def __init__(self, seconds: float) -> None:
-        super().__init__(f'the file is read since {seconds:.0f} seconds')
+        super().__init__(f'the file has been read for {seconds:.0f} seconds')
         self.seconds = seconds
 
 
@@ -304,7 +304,7 @@ class Layer:
 
 def is_url(place: str) -> bool:
     """Says whether a word is a URL, and not the path of a file that is there."""
-    return place.startswith(('http://', 'https://')) and not os.path.exists(place)
+    return URL.match(place) is not None and not os.path.exists(place)
 
 
 def _sides(revision: Revision, level: int) -> Tuple[int, int]:

@@ -3,6 +3,7 @@ import http.server
 import json
 import os
 import shutil
+import socket
 import struct
 import subprocess
 import threading
@@ -11,9 +12,10 @@ import unittest
 import urllib.request
 
 import numpy
+from answers import served
 from browser import InBrowser, View, picture, whole_of
 from files import noise, plain, ten_files
-from servers import Made, served
+from servers import Made
 from support import EXAMPLE, FOLDER, TOP
 
 LEAFLET = '/usr/share/javascript/leaflet'
@@ -151,6 +153,12 @@ class Moved(InBrowser):
         self.page.script('location.hash = "#x"')
         self.ends_at(1, 300, 200)
 
+    def test_link_before_a_frame(self):
+        """A link that is followed isn't lost where the page is drawn before the browser tells of it."""
+        self.page.script('window.requestAnimationFrame = draw => { draw(); return 0; };'
+                         'location.hash = "#1/300/200"; dispatchEvent(new Event("resize"));')
+        self.ends_at(1, 300, 200)
+
     def test_words(self):
         """The pixel, the map coordinates and the value under the mouse."""
         whole, size = whole_of(self.path), 60000 / 1024
@@ -201,6 +209,18 @@ class Several(InBrowser):
                 told = self.page.wait(number, also=lambda told: told['valueWords'] != '')
                 self.assertEqual(told['pixelWords'], f'{column}, {row}')
                 self.assertEqual(told['valueWords'], str(whole_of(whole)[609, 705]))
+        self.no_errors()
+
+    def test_first_is_slow(self):
+        """Where the first file is still read, the mouse over the second one does no harm."""
+        with socket.create_server(('127.0.0.1', 0)) as silent, \
+                View(f'http://127.0.0.1:{silent.getsockname()[1]}/a.tif', ten_files()['grey']) as view:
+            self.page.open(view.url)
+            left, top, width, height = self.page.wait(1, 'reading', also=lambda told: told['tag'] != '')['box']
+            for step in range(20):
+                self.page.mouse('mouseMoved', left + width // 2 + step, top + height // 2)
+                time.sleep(0.1)
+            self.assertEqual(self.page.wait(1, 'reading')['pixelWords'], '')
         self.no_errors()
 
     def test_five(self):

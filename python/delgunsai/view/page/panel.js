@@ -15,6 +15,7 @@ export class Panel {
     this.side = settings.side;
     this.changed = changed;                                  // is called where the page is to be drawn again
     this.info = this.epoch = this.pointer = null;
+    this.view = null;                                        // in the levels of this file, once it is drawn
     this.failure = null;                                     // why the file can't be read
     this.news = null;                                        // what is said for a while
     this.tiles = new Map();
@@ -58,6 +59,7 @@ export class Panel {
     const before = this.info;
     if (before === null || before.most !== info.most) this.limits = info.limits;
     this.info = info;
+    this.view = null;
     this.begin();
     this.say(null);
     if (before !== null) {
@@ -236,7 +238,7 @@ export class Panel {
   }
 
   showLevel() {
-    if (this.info === null) return;
+    if (this.view === null) return;
     const level = levelOf(this.view.zoom), [width, height] = this.info.levels[level], factor = factorOf(this.view.zoom);
     this.root.dataset.level = level;
     this.find('.level').textContent = `${level}: ${width} × ${height}` + (factor > 1 ? `, ${factor} times` : '');
@@ -246,7 +248,7 @@ export class Panel {
   // Shows what lies so far from the middle of the screen; without words what did before.
   point(pointer = this.pointer) {
     this.pointer = pointer;
-    if (pointer === null || this.info === null) return;
+    if (pointer === null || this.view === null) return;
     const factor = factorOf(this.view.zoom), level = levelOf(this.view.zoom), [left, top] = this.corner();
     const place = [left + Math.floor(this.canvas.width / 2) + pointer[0], top + Math.floor(this.canvas.height / 2) + pointer[1]];
     const [x, y] = place.map(number => Math.floor(number / factor)), [width, height] = this.info.levels[level];

@@ -9,6 +9,7 @@ const PINCH = 1.5;                                           // how far fingers 
 const settings = JSON.parse(document.body.dataset.settings);
 const panels = settings.files.map(file => new Panel(file, settings, drawSoon));
 let view = viewOf(location.hash);
+let shown = location.hash;                                   // the link that the page has followed or has shown itself
 let viewed = null;                                           // the info whose levels the view speaks of
 let frame = 0, turned = 0;
 const fingers = new Map();                                   // places of pointers that are down
@@ -49,9 +50,17 @@ function go(next) {
   drawSoon();
 }
 
+// Shows the link to the view, unless another link was just given: its event has yet to come.
 function showLink() {
   const link = linkOf(view);
-  if (link !== location.hash) history.replaceState(null, '', link);
+  if (link === shown || location.hash !== shown) return;
+  history.replaceState(null, '', link);
+  shown = location.hash;
+}
+
+function followLink() {
+  shown = location.hash;
+  go(viewOf(shown) ?? view);
 }
 
 function move(across, down) {
@@ -158,7 +167,7 @@ function begin() {
   for (const [id, does] of Object.entries(clicks)) document.getElementById(id).addEventListener('click', does);
   addEventListener('keydown', key);
   addEventListener('resize', drawSoon);
-  addEventListener('hashchange', () => go(viewOf(location.hash) ?? view));
+  addEventListener('hashchange', followLink);
   document.title = `${settings.files.map(file => file.name).join(', ')} - Delgunsai`;
   lookAgain();
   drawSoon();
