@@ -18,8 +18,8 @@ use command_lines::{
 };
 use disk_files::replace_file;
 use range_cache::{MAX_CAPACITY, MIN_CAPACITY};
-use read_command::{Asked, Exchanges, ReadError, Text, Verbosity};
-use read_progress::{Noted, NotedNet, RefusalSentence};
+use read_command::{Asked, Exchanges, ReadError, Text};
+use read_progress::{Noted, NotedNet, Printing, RefusalSentence, Verbosity};
 use std::alloc::{AllocError, Global};
 use std::io;
 use std::net::{Net, TcpStream};
@@ -100,7 +100,7 @@ fn numbers_of<R: AllocGlobal>(rt: &R, line: &ReadLine<'_>) -> Result<Numbers, Ex
 }
 
 /// Returns what a line wants printed of exchanges.
-fn telling_of(line: &ReadLine<'_>) -> Verbosity {
+fn verbosity_of(line: &ReadLine<'_>) -> Verbosity {
     match (line.verbose, line.progress) {
         (true, _) => Verbosity::Each,
         (false, true) => Verbosity::Progress,
@@ -164,12 +164,15 @@ fn text_of_source<'c, R, P: Pieces + Drop>(
 where
     R: Clock + Eprint + AllocGlobal,
 {
-    let mut noted = Noted::new(rt.alloc(), source);
-    let exchanges = Exchanges {
+    let printing = Printing {
         rt,
         net,
+        verbosity: verbosity_of(line),
+    };
+    let mut noted = Noted::new(rt.alloc(), source, printing);
+    let exchanges = Exchanges {
+        rt,
         requests: numbers.requests,
-        verbosity: telling_of(line),
         is_url,
     };
     exchanges.text(client, &mut noted, numbers.asked)

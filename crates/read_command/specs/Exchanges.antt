@@ -48,13 +48,13 @@ StopsReading a old new = (mid opened : ClientState) × (query : Query) × IsAske
 -- ---- answers that aren't used
 
 -- A URL names the file, and at most one exchange was begun, whose answer isn't used for this reason, which is expected to stay.
-pub record IsUnused {P : Type 0} (is_url : Bool) (before after : ℕ) (noted : Noted P) (why : Why) : Type 0 where
+pub record IsUnused {R P : Type 0} (is_url : Bool) (before after : ℕ) (noted : Noted R P) (why : Why) : Type 0 where
   pub asked : is_url ≡ true
   pub few : StaysWithin 1 before after
   pub refused : IsRefused why noted
 
 -- so it is where this error tells of such an answer; else memory is wanting
-abbrev pub EndsUnused : {P : Type 0} → (is_url : Bool) → (before after : ℕ) → Noted P → ReadError → Type 0
+abbrev pub EndsUnused : {R P : Type 0} → (is_url : Bool) → (before after : ℕ) → Noted R P → ReadError → Type 0
 EndsUnused is_url before after noted (NotUsed why) = IsUnused is_url before after noted why
 EndsUnused is_url before after noted Memory = ⊤
 EndsUnused is_url before after noted error = ⊥

@@ -6,5 +6,5 @@ mod reading;
 mod text;
 
 pub use error::ReadError;
-pub use reading::{Asked, Exchanges, Verbosity};
+pub use reading::{Asked, Exchanges};
 pub use text::Text;

@@ -1,4 +1,4 @@
-//! How `cogread` reads: its exchanges, which `--verbose` prints and `--progress` draws, and what is asked of the file.
+//! How `cogread` reads: how many exchanges it makes, what is asked of the file, and the text of its report.
 ghost use Rattle.std.specs.Prelude.{◌≡◌, ◌≢◌, ℕ, ◌+◌, ◌<◌, ◌≤◌, ◌^◌, ◌⊎◌, false, true, Err, IfErr, IfOk, IfSome, IsSome, IsSomeAnd, List, None, OnErr, OnOk, Option, Some, min, slice_get};
 ghost use Rattle.tiff_dir.specs.declared.query.Query.TheVariants.{Info as AnInfo};
 ghost use Rattle.http_range.specs.Book.{Book, HasDistinctTags};
@@ -20,7 +20,7 @@ use crate::text::Text;
 use cog_client::{Client, FetchError, Info, Outcome, Pieces, Query, Report, Tag, Why};
 use cog_fetch::fetch_pieces;
 use http_range::law_fronts_are_read;
-use read_progress::{Noted, NotedNet, exchanges_drawn, exchanges_told};
+use read_progress::{Noted, Verbosity};
 use std::rt::Clock;
 use text_description::{Description, Form};
 use text_report::{FaultSentence, info_text, picture_head};
@@ -37,31 +37,18 @@ pub enum Asked {
     Description(Form),
 }
 
-/// Says what is printed of exchanges on standard error.
-#[derive(Clone, Copy, Debug, PartialEq, Eq)]
-pub enum Verbosity {
-    /// Nothing.
-    Nothing,
-    /// A line for each exchange, and why there is no text.
-    Each,
-    /// The progress of the exchanges, as one line that is drawn over itself.
-    Progress,
-}
-
-/// Holds how exchanges are made: at most `requests` in all, and `verbosity` says what is printed of them.
+/// Holds how exchanges are made: at most `requests` in all.
 #[derive(Drop)]
-pub struct Exchanges<'a, 'r, R> {
+pub struct Exchanges<'a, R> {
     pub rt: &'a R,
-    pub net: &'a NotedNet<'r, R>,
     pub requests: u32,
-    pub verbosity: Verbosity,
     /// Whether a URL names the file. Then the first answer ends the exchanges, if no later one is expected to be used. The program's line
     /// explains a fault then, and so nothing else does.
     pub is_url: bool,
 }
 
 /// Returns how many of `requests` exchanges are left.
-fn left<P: Pieces>(noted: &Noted<P>, requests: u32) -> u32
+fn left<R: Eprint + Clock, P: Pieces>(noted: &Noted<'_, '_, R, P>, requests: u32) -> u32
     ensures counted { P.count (source_of noted.now) + result < 2 ^ 64 }
     ensures few { StaysWithin requests (P.count (source_of noted.now)) (P.count (source_of noted.now) + result) }
     ensures all { requests ≤ P.count (source_of noted.now) + result }
@@ -74,9 +61,13 @@ fn left<P: Pieces>(noted: &Noted<P>, requests: u32) -> u32
     }
 }
 
-impl<R: Eprint + Clock + AllocGlobal> Exchanges<'_, '_, R> {
+impl<R: Eprint + Clock + AllocGlobal> Exchanges<'_, R> {
     /// Makes exchanges until a report stands, or none is left. What is known already needs none.
-    fn fetch<P: Pieces>(&self, client: &mut Client, noted: &mut Noted<P>) -> Result<(), FetchError>
+    fn fetch<P: Pieces>(
+        &self,
+        client: &mut Client,
+        noted: &mut Noted<'_, '_, R, P>,
+    ) -> Result<(), FetchError>
         ensures keeps { KeepsReading (P.speaks_for (source_of noted.old)) (P.speaks_for (source_of noted.new)) client.old client.new }
         ensures few { StaysWithin self.now.requests (P.count (source_of noted.old)) (P.count (source_of noted.new)) }
         ensures ends { OnOk result ((self.now.requests ≤ P.count (source_of noted.new)) ⊎ IsIdle client.new) }
@@ -97,13 +88,7 @@ impl<R: Eprint + Clock + AllocGlobal> Exchanges<'_, '_, R> {
             client.request()?;
             return Ok(());
         }
-        match self.verbosity {
-            Verbosity::Nothing => {
-                fetch_pieces(client, noted, left)?;
-            }
-            Verbosity::Each => exchanges_told(self.rt, self.net, client, noted, left)?,
-            Verbosity::Progress => exchanges_drawn(self.rt, client, noted, left)?,
-        }
+        fetch_pieces(client, noted, left)?;
         Ok(())
     }
 
@@ -111,7 +96,7 @@ impl<R: Eprint + Clock + AllocGlobal> Exchanges<'_, '_, R> {
     fn fetch_whole<P: Pieces>(
         &self,
         client: &mut Client,
-        noted: &mut Noted<P>,
+        noted: &mut Noted<'_, '_, R, P>,
         level: u32,
     ) -> Result<(), FetchError>
         ensures reads { StillReads (P.speaks_for (source_of noted.old)) (P.speaks_for (source_of noted.new)) client.old client.new }
@@ -142,18 +127,11 @@ impl<R: Eprint + Clock + AllocGlobal> Exchanges<'_, '_, R> {
         Ok(())
     }
 
-    /// Ends the line that is drawn.
-    fn end_line(&self) {
-        if self.verbosity == Verbosity::Progress {
-            let _ = eprintln!(self.rt; "");
-        }
-    }
-
     /// Reads what is asked over `noted`.
     fn fetch_asked<P: Pieces>(
         &self,
         client: &mut Client,
-        noted: &mut Noted<P>,
+        noted: &mut Noted<'_, '_, R, P>,
         asked: Asked,
     ) -> Result<(), FetchError>
         ensures reads { StillReads (P.speaks_for (source_of noted.old)) (P.speaks_for (source_of noted.new)) client.old client.new }
@@ -180,7 +158,7 @@ impl<R: Eprint + Clock + AllocGlobal> Exchanges<'_, '_, R> {
     fn first_refusal<P: Pieces>(
         &self,
         client: &mut Client,
-        noted: &mut Noted<P>,
+        noted: &mut Noted<'_, '_, R, P>,
         asked: Asked,
     ) -> Result<Option<Why>, FetchError>
         ensures reads { StillReads (P.speaks_for (source_of noted.old)) (P.speaks_for (source_of noted.new)) client.old client.new }
@@ -189,9 +167,7 @@ impl<R: Eprint + Clock + AllocGlobal> Exchanges<'_, '_, R> {
     {
         let first = Exchanges {
             rt: self.rt,
-            net: self.net,
             requests: self.requests.min(1),
-            verbosity: self.verbosity,
             is_url: self.is_url,
         };
         first.fetch_asked(client, noted, asked)?;
@@ -203,7 +179,7 @@ impl<R: Eprint + Clock + AllocGlobal> Exchanges<'_, '_, R> {
     fn begin<P: Pieces>(
         &self,
         client: &mut Client,
-        noted: &mut Noted<P>,
+        noted: &mut Noted<'_, '_, R, P>,
         asked: Asked,
     ) -> Result<(), ReadError>
         ensures reads { StillReads (P.speaks_for (source_of noted.old)) (P.speaks_for (source_of noted.new)) client.old client.new }
@@ -224,7 +200,7 @@ impl<R: Eprint + Clock + AllocGlobal> Exchanges<'_, '_, R> {
     fn fetch_used<P: Pieces>(
         &self,
         client: &mut Client,
-        noted: &mut Noted<P>,
+        noted: &mut Noted<'_, '_, R, P>,
         asked: Asked,
     ) -> Result<(), ReadError>
         ensures reads { StillReads (P.speaks_for (source_of noted.old)) (P.speaks_for (source_of noted.new)) client.old client.new }
@@ -242,13 +218,13 @@ impl<R: Eprint + Clock + AllocGlobal> Exchanges<'_, '_, R> {
     }
 
     /// Reads what is asked over `noted`, and returns its text: a picture, whose samples the client lends, the lines of Info, or a
-    /// description. It prints exchanges, and why there is no text, as `verbosity` says. Fails with `OfFile` where the report is a fault,
+    /// description. It prints why there is no text, as the verbosity of `noted` says. Fails with `OfFile` where the report is a fault,
     /// and with `NoReport` where no report has what is asked. Fails with `NotUsed` where a URL names the file and the first answer can't be
     /// used, and with `Memory` where no memory is left.
     pub fn text<'c, P: Pieces>(
         &self,
         client: &'c mut Client,
-        noted: &mut Noted<P>,
+        noted: &mut Noted<'_, '_, R, P>,
         asked: Asked,
     ) -> Result<Text<'c>, ReadError>
         // What is written is true of one publication of each book that the client reads and the source speaks for.
@@ -265,14 +241,19 @@ impl<R: Eprint + Clock + AllocGlobal> Exchanges<'_, '_, R> {
             → IsUnused self.now.is_url (P.count (source_of noted.old)) (P.count (source_of noted.new)) noted.new why }
     {
         let fetched = self.fetch_used(client, noted, asked);
-        self.end_line();
+        noted.end_line();
         fetched?;
-        self.text_at(client, asked)
+        self.text_at(client, asked, noted.verbosity())
     }
 
     /// Returns the text of the report that stands. Fails with `NoReport` only where none stands, or where it has the sides of a level that
     /// is asked for as a whole.
-    fn text_at<'c>(&self, client: &'c Client, asked: Asked) -> Result<Text<'c>, ReadError>
+    fn text_at<'c>(
+        &self,
+        client: &'c Client,
+        asked: Asked,
+        verbosity: Verbosity,
+    ) -> Result<Text<'c>, ReadError>
         ensures written { IsOfFile result
             → (r : Report) × Stands client.now (Some r) × IsWritten asked r.tag r.outcome result }
         ensures left { result ≡ Err NoReport → HasNothing asked (report_of client.now) }
@@ -281,15 +262,15 @@ impl<R: Eprint + Clock + AllocGlobal> Exchanges<'_, '_, R> {
         ensures used { (why : Why) → result ≢ Err (NotUsed why) }
     {
         let Some(report) = client.report() else {
-            self.tell_no_report();
+            self.tell_no_report(verbosity);
             return Err(ReadError::NoReport);
         };
-        self.text_of(client, report, asked)
+        self.text_of(client, report, asked, verbosity)
     }
 
     /// Prints that no report stands, where each exchange is printed.
-    fn tell_no_report(&self) {
-        if self.verbosity == Verbosity::Each {
+    fn tell_no_report(&self, verbosity: Verbosity) {
+        if verbosity == Verbosity::Each {
             let requests = self.requests;
             let _ = eprintln!(self.rt;
                 "cogread: no report, and --requests allows no more than {requests}"
@@ -303,6 +284,7 @@ impl<R: Eprint + Clock + AllocGlobal> Exchanges<'_, '_, R> {
         client: &Client,
         report: &'c Report,
         asked: Asked,
+        verbosity: Verbosity,
     ) -> Result<Text<'c>, ReadError>
         requires { report_of client.now ≡ Some report.now }
         ensures written { IsWritten asked report.now.tag report.now.outcome result }
@@ -325,7 +307,7 @@ impl<R: Eprint + Clock + AllocGlobal> Exchanges<'_, '_, R> {
                 Asked::Whole { .. } => Err(ReadError::NoReport),
             },
             Outcome::Fault(fault) => {
-                if self.verbosity == Verbosity::Each && !self.is_url {
+                if verbosity == Verbosity::Each && !self.is_url {
                     let _ = eprintln!(self.rt; "cogread: {}", FaultSentence(*fault));
                 }
                 Err(ReadError::OfFile(*fault))

@@ -8,33 +8,33 @@ use Rattle.read_progress.specs.declared.noted.Came.{Came}
 use Rattle.read_progress.specs.declared.noted.Came.TheVariants.{Brought, Nothing, NotUsed, Unsent}
 use Rattle.read_progress.specs.declared.noted.Noted.{Noted}
 
-module _ {P : Type 0} where
+module _ {R P : Type 0} where
   -- the source whose exchanges are noted
-  abbrev pub source_of : Noted P → P
+  abbrev pub source_of : Noted R P → P
   source_of s = s.source
 
   -- what is noted of the last exchange: whether its request was sent, how many bytes came, and the first of them
-  abbrev pub sent_of : Noted P → Bool
+  abbrev pub sent_of : Noted R P → Bool
   sent_of s = s.is_sent
 
-  abbrev pub bytes_of : Noted P → ℕ
+  abbrev pub bytes_of : Noted R P → ℕ
   bytes_of s = s.bytes
 
-  abbrev pub front_of : Noted P → List ℕ
+  abbrev pub front_of : Noted R P → List ℕ
   front_of s = s.front.items
 
   -- Where the front is all that came, the bytes are noted behind it, as far as a head may go, or without memory none of them. Else it stays.
-  abbrev pub NotesOf : List ℕ → Noted P → Noted P → Type 0
+  abbrev pub NotesOf : List ℕ → Noted R P → Noted R P → Type 0
   NotesOf bytes old new =
       ((bytes_of old ≡ length (front_of old)) × (front_of new ≡ front_of old ++ take (4096 - length (front_of old)) bytes))
       ⊎ (front_of new ≡ front_of old)
 
   -- bytes came, of which this is read
-  abbrev pub Has : Noted P → Type 0
+  abbrev pub Has : Noted R P → Type 0
   Has s = (sent_of s ≡ true) × (0 < bytes_of s)
 
   -- what came of the last exchange; of a body no more than its head announces
-  abbrev pub HasCome : Noted P → Came → Type 0
+  abbrev pub HasCome : Noted R P → Came → Type 0
   HasCome s Unsent = sent_of s ≡ false
   HasCome s Nothing = (sent_of s ≡ true) × (bytes_of s ≡ 0)
   HasCome s (NotUsed why) = Has s × ReadsHead (front_of s) (Err why)
@@ -42,5 +42,5 @@ module _ {P : Type 0} where
       Has s × ReadsHead (front_of s) (Ok (announced head)) × (count ≡ min (bytes_of s - head.size) head.length)
 
   -- the last answer isn't used for this reason, nor will the next one be
-  abbrev pub IsRefused : Why → Noted P → Type 0
+  abbrev pub IsRefused : Why → Noted R P → Type 0
   IsRefused why s = HasCome s (NotUsed why) × (is_lasting why ≡ true)

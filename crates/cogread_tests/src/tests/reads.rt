@@ -7,8 +7,8 @@ use cog_server::Server;
 use fixtures_support::{f1, f2, f2b};
 use programs::Exit;
 use programs_support::{Capture, Told};
-use read_command::{Asked, Exchanges, Verbosity};
-use read_progress::{Noted, NotedNet};
+use read_command::{Asked, Exchanges};
+use read_progress::{Noted, NotedNet, Printing, Verbosity};
 use std::alloc::{AllocError, Global};
 use std::io;
 use std::rt::Clock;
@@ -32,12 +32,16 @@ fn read<R: AllocGlobal + Clock, P: Pieces + Drop>(
     let Ok(mut client) = Client::new(alloc, b"cog.test", b"a", 66) else {
         return Err(Exit::Memory);
     };
-    let mut noted = Noted::new(alloc, pieces);
+    let net = NotedNet::new(capture);
+    let printing = Printing {
+        rt: capture,
+        net: &net,
+        verbosity: Verbosity::Nothing,
+    };
+    let mut noted = Noted::new(alloc, pieces, printing);
     let exchanges = Exchanges {
         rt: capture,
-        net: &NotedNet::new(capture),
         requests,
-        verbosity: Verbosity::Nothing,
         is_url: false,
     };
     let text = exchanges.text(&mut client, &mut noted, asked)?;

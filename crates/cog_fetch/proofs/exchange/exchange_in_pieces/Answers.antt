@@ -1,8 +1,8 @@
 use Rattle.std.proofs.Common.{true, inr, sym, subst}
 use Rattle.cog_client.specs.Transport.{IsTrueToAll}
 use Rattle.cog_fetch.specs.Takes.{StopsWithin, TakenOf}
-use Rattle.cog_fetch.proofs.TakeLemmas.{keeps_taking, refused, stops_of, taken_of, taken_on}
-use Rattle.cog_fetch.proofs.exchange.InPiecesExchange.exchange.Goals as goal
+use Rattle.cog_fetch.proofs.TakeLemmas.{keeps_taking, refused, stops_of, taken_of}
+use Rattle.cog_fetch.proofs.exchange.exchange_in_pieces.Goals as goal
 
 pub returns-in_err-take_answer-in-Ok-clause-keeps : goal.returns-in_err-take_answer-in-Ok-clause-keeps
 returns-in_err-take_answer-in-Ok-clause-keeps g c =
@@ -42,27 +42,3 @@ returns-in_err-take_answer-in-Ok-clause-stops g c =
     refused c.from_residual.result (StopsWithin (TakenOf speaks answers true) c.args.request.now c.args.client.now c.take_answer.new.client)
     (stops_of speaks (g.P.Pieces.speaks_for c.foresee.new.source) answers c.args.request.now (g.P.Pieces.rest c.start.new.self) (g.P.Pieces.rest c.foresee.new.source) t.0
     c.args.client.now c.take_answer.new.client (λ p spoken. told.speaks p (c.in-Ok.ensures.speaks p spoken)) c.in-Ok.ensures.answered told.rest t.1 t.2)
-
-pub returns-in_err-take_answer-in-Ok-clause-goes_on : goal.returns-in_err-take_answer-in-Ok-clause-goes_on
-returns-in_err-take_answer-in-Ok-clause-goes_on g c =
-    let start = c.in-Ok.ensures in
-    let told = c.foresee.ensures in
-    let takes = c.take_answer.ensures in
-    taken_on (g.P.Pieces.speaks_for c.args.source.now) (g.P.Pieces.speaks_for c.take_answer.new.pieces) (g.P.Pieces.answers c.args.source.now)
-    (g.P.Pieces.answers c.take_answer.new.pieces) (λ p spoken. takes.speaks p (told.speaks p (start.speaks p spoken)))
-    (λ request came is. start.goes_on request came (told.goes_on request came (takes.goes_on request came is)))
-
-pub returns-in_ok-take_answer-in-Ok-clause-goes_on : goal.returns-in_ok-take_answer-in-Ok-clause-goes_on
-returns-in_ok-take_answer-in-Ok-clause-goes_on g c =
-    let start = c.in-Ok.ensures in
-    let told = c.foresee.ensures in
-    let takes = c.take_answer.ensures in
-    taken_on (g.P.Pieces.speaks_for c.args.source.now) (g.P.Pieces.speaks_for c.take_answer.new.pieces) (g.P.Pieces.answers c.args.source.now)
-    (g.P.Pieces.answers c.take_answer.new.pieces) (λ p spoken. takes.speaks p (told.speaks p (start.speaks p spoken)))
-    (λ request came is. start.goes_on request came (told.goes_on request came (takes.goes_on request came is)))
-
-pub returns-in-Err-clause-goes_on : goal.returns-in-Err-clause-goes_on
-returns-in-Err-clause-goes_on g c =
-    let e = c.start.ensures in
-    taken_on (g.P.Pieces.speaks_for c.args.source.now) (g.P.Pieces.speaks_for c.start.new.self) (g.P.Pieces.answers c.args.source.now)
-    (g.P.Pieces.answers c.start.new.self) e.speaks e.goes_on
