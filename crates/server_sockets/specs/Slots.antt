@@ -25,19 +25,19 @@ accepted_of s = s.accepted
 abbrev pub ended_of : Serving → ℕ
 ended_of s = s.open_connections.ended
 
--- how many there may be, and how long one keeps its place
+-- how many there may be, and how long one keeps its slot
 abbrev pub limits_of : Serving → Limits
 limits_of s = s.limits
 
--- the connections that have a place
-abbrev pub places_of : Serving → Table
-places_of s = s.open_connections.connections.table.entries
+-- the connections that have a slot
+abbrev pub slots_of : Serving → Table
+slots_of s = s.open_connections.connections.table.entries
 
--- how many places there are
-abbrev pub room_of : Serving → ℕ
-room_of s = s.open_connections.connections.table.cap
+-- how many slots there are
+abbrev pub slot_count : Serving → ℕ
+slot_count s = s.open_connections.connections.table.cap
 
--- the number of the next one that gets a place
+-- the number of the next one that gets a slot
 abbrev pub next_of : Serving → ℕ
 next_of s = s.open_connections.connections.next
 
@@ -50,13 +50,13 @@ frees_of s = s.frees_at
 abbrev pub MayKeepOld : ℕ → Serving → Type 0
 MayKeepOld count s = IsSome s.frees_at ⊎ (s.publications ≢ count)
 
--- nobody's place is a newcomer's at this moment: each connection is busy, or it is the only one, which never loses its own
+-- nobody's slot is a newcomer's at this moment: each connection is busy, or it is the only one, which never loses its own
 abbrev pub NobodyYields : ℕ → Serving → Type 0
-NobodyYields now s = (room_of s ≡ 1) ⊎ Yields now (limits_of s).patience (places_of s) None
+NobodyYields now s = (slot_count s ≡ 1) ⊎ Yields now (limits_of s).patience (slots_of s) None
 
--- there is no place for a newcomer at this moment: none is free, and nobody's is taken
-abbrev pub HasNoPlace : ℕ → Serving → Type 0
-HasNoPlace now s = (room_of s ≤ length (places_of s)) × NobodyYields now s
+-- there is no slot for a newcomer at this moment: none is free, and nobody's is taken
+abbrev pub HasNoSlot : ℕ → Serving → Type 0
+HasNoSlot now s = (slot_count s ≤ length (slots_of s)) × NobodyYields now s
 
 -- no connection may go on, none drains, and no newcomer is known that there was no room for, or that wasn't let in
 abbrev pub Rests : Serving → Type 0
@@ -65,31 +65,31 @@ Rests s = (s.ready.items ≡ []) × (s.drains.items ≡ []) × (s.out_of_descrip
 -- by this moment one is looked at that will have made no progress for as long as the patience, the first that will
 abbrev pub WakesBy : Serving → Option ℕ → Type 0
 WakesBy s by = (wake : Option ℕ)
-    × WakesAt (limits_of s).patience (places_of s) wake × IfSome wake (λ moment. IsSomeAnd by (λ first. first ≤ moment))
+    × WakesAt (limits_of s).patience (slots_of s) wake × IfSome wake (λ moment. IsSomeAnd by (λ first. first ≤ moment))
 
 -- no longer than until then is waited
 abbrev pub WakesIn : ℕ → Serving → Option Duration → Type 0
 WakesIn now s wait = (wake : Option ℕ)
-    × WakesAt (limits_of s).patience (places_of s) wake × IfSome wake (λ moment. IsSomeAnd wait (λ d. as_nanos d ≤ (moment - now) * 1000000))
+    × WakesAt (limits_of s).patience (slots_of s) wake × IfSome wake (λ moment. IsSomeAnd wait (λ d. as_nanos d ≤ (moment - now) * 1000000))
 
 -- by this moment, where a newcomer waits, a socket is tried for which bytes wait: half of the patience after its last try, at the latest
 abbrev pub TriesBy : Serving → Option ℕ → Type 0
 TriesBy s by = (try : Option ℕ)
-    × TriesAt (limits_of s).patience (places_of s) try × IfSome try (λ moment. IsSomeAnd by (λ first. first ≤ moment))
+    × TriesAt (limits_of s).patience (slots_of s) try × IfSome try (λ moment. IsSomeAnd by (λ first. first ≤ moment))
 
 -- no longer than until then is waited
 abbrev pub TriesIn : ℕ → Serving → Option Duration → Type 0
 TriesIn now s wait = (try : Option ℕ)
-    × TriesAt (limits_of s).patience (places_of s) try × IfSome try (λ moment. IsSomeAnd wait (λ d. as_nanos d ≤ (moment - now) * 1000000))
+    × TriesAt (limits_of s).patience (slots_of s) try × IfSome try (λ moment. IsSomeAnd wait (λ d. as_nanos d ≤ (moment - now) * 1000000))
 
--- At this moment a newcomer that waits is looked at again: of several places, where the first connection will have made no progress for
+-- At this moment a newcomer that waits is looked at again: of several slots, where the first connection will have made no progress for
 -- as long as the patience, or the first socket is to be tried, or a second from now where there was no room for it, and only then where
 -- it wasn't let in.
 abbrev pub IsLookedAt : ℕ → Serving → ℕ → Type 0
 IsLookedAt now s moment =
     (s.accept_pending ≡ true) × (accepted_of s < (limits_of s).connections)
-    × (((s.is_barred ≡ false) × (room_of s ≢ 1) × (WakesAt (limits_of s).patience (places_of s) (Some moment)
-    ⊎ TriesAt (limits_of s).patience (places_of s) (Some moment)))
+    × (((s.is_barred ≡ false) × (slot_count s ≢ 1) × (WakesAt (limits_of s).patience (slots_of s) (Some moment)
+    ⊎ TriesAt (limits_of s).patience (slots_of s) (Some moment)))
     ⊎ (((s.out_of_descriptors ≡ true) ⊎ (s.is_barred ≡ true)) × (moment ≡ min (now + 1000) (2 ^ 64 - 1))))
 
 -- it is waited until the first drain ends, a connection that keeps bytes of a replaced file will have made no progress for as long as the
@@ -99,28 +99,28 @@ IsWaitedFor now s wait =
     (moment : ℕ) × (IsSomeAnd (slice_get s.drains.items 0) (λ drain. drain.ends ≡ moment) ⊎ ((frees_of s ≡ Some moment) ⊎ IsLookedAt now s moment))
     × (as_nanos wait ≡ (moment - now) * 1000000)
 
--- a connection that had a place has it as it was, unless a newcomer may take it at this moment
+-- a connection that had a slot has it as it was, unless a newcomer may take it at this moment
 abbrev pub KeepsBusy : ℕ → Serving → Serving → Type 0
-KeepsBusy now old new = (k : ℕ) (p : Timed) → timed_at k (places_of old) ≡ Some p →
-    MayYield now (limits_of old).patience p ⊎ (timed_at k (places_of new) ≡ Some p)
+KeepsBusy now old new = (k : ℕ) (p : Timed) → timed_at k (slots_of old) ≡ Some p →
+    MayYield now (limits_of old).patience p ⊎ (timed_at k (slots_of new) ≡ Some p)
 
--- each connection has the place that it had, as it was
+-- each connection has the slot that it had, as it was
 abbrev pub KeepsAll : Serving → Serving → Type 0
-KeepsAll old new = (k : ℕ) (p : Timed) → timed_at k (places_of old) ≡ Some p → timed_at k (places_of new) ≡ Some p
+KeepsAll old new = (k : ℕ) (p : Timed) → timed_at k (slots_of old) ≡ Some p → timed_at k (slots_of new) ≡ Some p
 
--- who has a place had it, and it is as it was
+-- who has a slot had it, and it is as it was
 abbrev pub NoneChanges : Serving → Serving → Type 0
-NoneChanges old new = (k : ℕ) (p : Timed) → timed_at k (places_of new) ≡ Some p → timed_at k (places_of old) ≡ Some p
+NoneChanges old new = (k : ℕ) (p : Timed) → timed_at k (slots_of new) ≡ Some p → timed_at k (slots_of old) ≡ Some p
 
--- who has a place and had none starts at this moment
+-- who has a slot and had none starts at this moment
 abbrev pub AllStart : ℕ → Serving → Serving → Type 0
 AllStart now old new =
-    (k : ℕ) (p : Timed) → timed_at k (places_of old) ≡ None → timed_at k (places_of new) ≡ Some p → HasStartedAt k now (places_of new)
+    (k : ℕ) (p : Timed) → timed_at k (slots_of old) ≡ None → timed_at k (slots_of new) ≡ Some p → HasStartedAt k now (slots_of new)
 
--- who has a place had it, and is as it was, or starts at this moment
+-- who has a slot had it, and is as it was, or starts at this moment
 abbrev pub StayOrStart : ℕ → Serving → Serving → Type 0
 StayOrStart now old new =
-    (k : ℕ) (p : Timed) → timed_at k (places_of new) ≡ Some p → (timed_at k (places_of old) ≡ Some p) ⊎ HasStartedAt k now (places_of new)
+    (k : ℕ) (p : Timed) → timed_at k (slots_of new) ≡ Some p → (timed_at k (slots_of old) ≡ Some p) ⊎ HasStartedAt k now (slots_of new)
 
 -- What the system reported is noted: each connection is queued for its turn, or gone, and of the listener it is remembered.
 pub record IsNoted (old new : Serving) : Type 0 where
@@ -128,10 +128,10 @@ pub record IsNoted (old new : Serving) : Type 0 where
   pub queued : (k : ℕ) → Contains (sockets_of (events_of new)) k → k ≢ LISTENER.0
       → IsQueued k new.ready.items old.open_connections new.open_connections
 
--- nobody is accepted, nobody gets a place, there are as many places, and none that ended is forgotten
+-- nobody is accepted, nobody gets a slot, there are as many slots, and none that ended is forgotten
 pub record NobodyComes (old new : Serving) : Type 0 where
-  pub places : (k : ℕ) → timed_at k (places_of old) ≡ None → timed_at k (places_of new) ≡ None
+  pub slots : (k : ℕ) → timed_at k (slots_of old) ≡ None → timed_at k (slots_of new) ≡ None
   pub accepted : accepted_of new ≡ accepted_of old
-  pub room : room_of new ≡ room_of old
+  pub room : slot_count new ≡ slot_count old
   pub limits : limits_of new ≡ limits_of old
   pub ended : ended_of old ≤ ended_of new

@@ -1,4 +1,4 @@
--- A place that is taken for a newcomer.
+-- A slot that is taken for a newcomer.
 use Rattle.std.proofs.Common.{◌≡◌, ◌+◌, ℕ, [], ◌∷◌, length, nat_eq, Option, Some, None, refl, sym, subst, arith, inl, inr}
 use Rattle.std.specs.Prelude.{IsSomeAnd}
 use Rattle.std.specs.Map.{remove_entry}
