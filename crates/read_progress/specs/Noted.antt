@@ -1,12 +1,30 @@
 -- What others know of a source whose exchanges are noted.
-use Rattle.std.specs.Prelude.{◌≡◌, ◌⊎◌, ◌-◌, ◌<◌, ◌++◌, ℕ, Bool, true, false, List, Ok, Err, length, min, take}
+use Rattle.std.specs.Prelude.{◌≡◌, ◌⊎◌, ◌+◌, ◌-◌, ◌<◌, ◌++◌, ℕ, Bool, true, false, if◌then◌else◌, nat_lt, List, [], Ok, Err, Some, codes, length, min, take}
+use Rattle.http_fields.specs.Fields.{only, values_of}
 use Rattle.http_range.specs.Announced.{announced}
 use Rattle.http_range.specs.Reading.{ReadsHead}
+use Rattle.http_range.specs.Seen.{HasRequest, SeenRequest}
 use Rattle.http_range.specs.declared.reading.Why.{Why}
 use Rattle.read_progress.specs.Lasting.{is_lasting}
 use Rattle.read_progress.specs.declared.noted.Came.{Came}
 use Rattle.read_progress.specs.declared.noted.Came.TheVariants.{Brought, Nothing, NotUsed, Unsent}
 use Rattle.read_progress.specs.declared.noted.Noted.{Noted}
+use Rattle.read_progress.specs.declared.noted.Progress.{Progress}
+
+-- a sum of numbers of 64 bits, the greatest of them where it has no room
+abbrev sum : ℕ → ℕ → ℕ
+sum a b = min (a + b) 18446744073709551615
+
+-- bytes of a file came
+abbrev brings : Came → Bool
+brings (Brought head count) = nat_lt 0 count
+brings came = false
+
+-- Of the request the value of its only Range field is noted; nothing where it has none, or memory is wanting.
+abbrev pub NotesRange : List ℕ → List ℕ → Type 0
+NotesRange request range =
+    (range ≡ [])
+    ⊎ ((seen : SeenRequest) × HasRequest request (Some seen) × (only (values_of (codes "range") seen.fields) ≡ Some range))
 
 module _ {R P : Type 0} where
   -- the source whose exchanges are noted
@@ -22,6 +40,14 @@ module _ {R P : Type 0} where
 
   abbrev pub front_of : Noted R P → List ℕ
   front_of s = s.front.items
+
+  -- the Range field of the last request
+  abbrev pub range_of : Noted R P → List ℕ
+  range_of s = s.range.items
+
+  -- what the exchanges before the last one brought
+  abbrev pub before_of : Noted R P → Progress
+  before_of s = s.before
 
   -- Where the front is all that came, the bytes are noted behind it, as far as a head may go, or without memory none of them. Else it stays.
   abbrev pub NotesOf : List ℕ → Noted R P → Noted R P → Type 0
@@ -44,3 +70,14 @@ module _ {R P : Type 0} where
   -- the last answer isn't used for this reason, nor will the next one be
   abbrev pub IsRefused : Why → Noted R P → Type 0
   IsRefused why s = HasCome s (NotUsed why) × (is_lasting why ≡ true)
+
+  -- what all exchanges brought: before the last one, and by it
+  abbrev pub HasBrought : Noted R P → Progress → Type 0
+  HasBrought s all = (came : Came) × HasCome s came
+      × (all.had ≡ sum (before_of s).had (if brings came then 1 else 0))
+      × (all.asked ≡ (before_of s).asked)
+      × (all.bytes ≡ sum (before_of s).bytes (bytes_of s))
+
+  -- one more range is asked for, and nothing has come of it yet
+  abbrev pub AsksMore : Noted R P → Noted R P → Type 0
+  AsksMore old new = (all : Progress) × HasBrought old all × (before_of new ≡ record all { asked = sum all.asked 1 })

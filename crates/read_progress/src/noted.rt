@@ -2,7 +2,7 @@
 ghost use Rattle.std.specs.Prelude.{◌≡◌, ◌+◌, [], IfSome, false, length, min};
 ghost use Rattle.std.specs.Char.{is_ascii_digit};
 ghost use Rattle.std.specs.List.{AllPass};
-ghost use Rattle.read_progress.specs.Noted.{HasCome, IsRefused, NotesOf, bytes_of, front_of, sent_of, source_of};
+ghost use Rattle.read_progress.specs.Noted.{AsksMore, HasBrought, HasCome, IsRefused, NotesOf, NotesRange, before_of, bytes_of, front_of, range_of, sent_of, source_of};
 
 use crate::clock::moment;
 use crate::printing::{Printing, Verbosity};
@@ -109,7 +109,9 @@ impl<'a, 'r, R, P> Noted<'a, 'r, R, P> {
     }
 
     /// Returns the value of the last request's Range field, as `bytes=0-65535`.
-    pub(crate) fn range(&self) -> &[u8] {
+    pub(crate) fn range(&self) -> &[u8]
+        ensures { result.now ≡ range_of self.now }
+    {
         &self.range
     }
 
@@ -127,7 +129,9 @@ impl<'a, 'r, R, P> Noted<'a, 'r, R, P> {
     }
 
     /// Returns the number of bytes that came of the last answer, with its head.
-    pub(crate) fn bytes(&self) -> u64 {
+    pub(crate) fn bytes(&self) -> u64
+        ensures { result ≡ bytes_of self.now }
+    {
         self.bytes
     }
 
@@ -162,7 +166,9 @@ impl<'a, 'r, R, P> Noted<'a, 'r, R, P> {
     }
 
     /// Returns what all exchanges have brought.
-    pub fn progress(&self) -> Progress {
+    pub fn progress(&self) -> Progress
+        ensures { HasBrought self.now result }
+    {
         let Progress { had, asked, bytes } = self.before;
         let has_come = matches!(self.came(), Came::Brought(_, 1..));
         Progress {
@@ -179,6 +185,8 @@ impl<'a, 'r, R, P> Noted<'a, 'r, R, P> {
         ensures sent { sent_of self.new ≡ false }
         ensures bytes { bytes_of self.new ≡ 0 }
         ensures front { front_of self.new ≡ [] }
+        ensures range { NotesRange request.now (range_of self.new) }
+        ensures before { AsksMore self.old self.new }
     {
         self.before = self.progress();
         self.before.asked = self.before.asked.saturating_add(1);
@@ -200,6 +208,8 @@ impl<'a, 'r, R, P> Noted<'a, 'r, R, P> {
         ensures sent { sent_of self.new ≡ sent_of self.old }
         ensures bytes { bytes_of self.new ≡ min (bytes_of self.old + length piece.now) 18446744073709551615 }
         ensures front { NotesOf piece.now self.old self.new }
+        ensures range { range_of self.new ≡ range_of self.old }
+        ensures before { before_of self.new ≡ before_of self.old }
     {
         if self.bytes == self.front.len() as u64 {
             let room = FRONT_ROOM.saturating_sub(self.front.len());
@@ -214,7 +224,7 @@ impl<R: Eprint + Clock, P: Pieces> Pieces for Noted<'_, '_, R, P> {
     ghost use Rattle.std.specs.Prelude.{◌≡◌, ◌+◌, ◌<◌, ◌≤◌, ◌^◌, [], IfOk, IsTrue, OnErr, OnOk, is_ok, length, min, take};
     ghost use Rattle.cog_client.specs.Pieces.{BringsOf};
     ghost use Rattle.cog_client.specs.Transport.{AnswersOn, IsTrueToAll, OrLost, SpeaksOn};
-    ghost use Rattle.read_progress.specs.Noted.{NotesOf, bytes_of, front_of, sent_of, source_of};
+    ghost use Rattle.read_progress.specs.Noted.{AsksMore, NotesOf, NotesRange, before_of, bytes_of, front_of, range_of, sent_of, source_of};
 
     ghost speaks_for = { λ s. P.speaks_for (source_of s) };
 
@@ -233,6 +243,8 @@ impl<R: Eprint + Clock, P: Pieces> Pieces for Noted<'_, '_, R, P> {
         ensures sent { sent_of self.new ≡ is_ok result }
         ensures bytes { bytes_of self.new ≡ 0 }
         ensures front { front_of self.new ≡ [] }
+        ensures range { NotesRange request.now (range_of self.new) }
+        ensures before { AsksMore self.old self.new }
 
         // It keeps the trait's law.
         ensures answered { OnOk result (P.answers (source_of self.old) request.now (P.rest (source_of self.new))) }
@@ -258,6 +270,8 @@ impl<R: Eprint + Clock, P: Pieces> Pieces for Noted<'_, '_, R, P> {
         ensures bytes { IfOk result (λ n. bytes_of self.new ≡ min (bytes_of self.old + n) 18446744073709551615) }
         ensures front { IfOk result (λ n. NotesOf (take n out.new) self.old self.new) }
         ensures lost { OnErr result ((bytes_of self.new ≡ bytes_of self.old) × (front_of self.new ≡ front_of self.old)) }
+        ensures range { range_of self.new ≡ range_of self.old }
+        ensures before { before_of self.new ≡ before_of self.old }
 
         // It keeps the trait's law.
         ensures fits { IfOk result (λ n. n ≤ length out.new) }
