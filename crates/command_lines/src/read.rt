@@ -199,7 +199,7 @@ fn add_levels<'a>(alloc: Global, arguments: &mut Vec<Arg<'a>>) -> Result<(), All
 /// Appends the option that takes a rectangle. Its four values may begin with `-`, as negative numbers do.
 fn add_bounds<'a>(alloc: Global, arguments: &mut Vec<Arg<'a>>) -> Result<(), AllocError> {
     let help =
-        "The pixels that a rectangle meets, instead of X Y W H: its west, south, east and north side, as numbers in the file's own coordinates";
+        "The pixels that a rectangle meets, instead of X Y W H: its sides, as numbers in the file's own coordinates";
     let bounds = choice(alloc, "bounds", "N", help)
         .num_args(4)
         .value_names(&["W", "S", "E", "N"])

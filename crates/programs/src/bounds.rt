@@ -26,8 +26,8 @@ fn is_rectangle(bounds: &Bounds) -> bool
     bounds.west <= bounds.east && bounds.south <= bounds.north
 }
 
-/// Returns the rectangle that four words write. Fails with `NotACoordinate`, with `NoRectangle` where west is greater than east or south than
-/// north, or with `Memory`.
+/// Returns the rectangle that four words write. Fails with `NotACoordinate`, with `NoRectangle` where west is greater than east or south
+/// than north, or with `Memory`.
 pub fn bounds<R: AllocGlobal>(rt: &R, words: &BoundsWords<'_>) -> Result<Bounds, Exit>
     ensures ok { IfOk result (IsBounds words.now) }
     ensures err { OnErr result (IsNoBounds words.now) }

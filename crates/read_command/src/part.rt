@@ -82,8 +82,8 @@ fn with_world(has_world: bool, window: Query, world: Option<WorldFile>) -> Resul
 }
 
 impl Part {
-    /// Returns the window of this part, and its world file if one is asked for, by what Info says of the file. Fails with `NoWindow` where a
-    /// rectangle gives no window, and with `NoWorld` where the file doesn't say where its pixels lie.
+    /// Returns the window of this part, and its world file if one is asked for, by what Info says of the file. Fails with `NoWindow` where
+    /// a rectangle gives no window, and with `NoWorld` where the file doesn't say where its pixels lie.
     #[tactic(auto, unfolding(crate::specs::Part::part_given))]
     pub(crate) fn given(&self, info: &Info) -> Result<Given, ReadError>
         ensures is { result ≡ part_given info.now self.now }

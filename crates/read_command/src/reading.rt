@@ -107,8 +107,8 @@ impl<R: Eprint + Clock + AllocGlobal> Exchanges<'_, '_, R> {
         Ok(())
     }
 
-    /// Reads Info, and then the window that a part of a level is by it. Where the file was replaced between, it begins again. Where Info gives
-    /// no window or no world file, it ends with Info. Returns the world file of the window, if one is asked for.
+    /// Reads Info, and then the window that a part of a level is by it. Where the file was replaced between, it begins again. Where Info
+    /// gives no window or no world file, it ends with Info. Returns the world file of the window, if one is asked for.
     fn fetch_part<P: Pieces>(
         &self,
         client: &mut Client,
@@ -222,8 +222,8 @@ impl<R: Eprint + Clock + AllocGlobal> Exchanges<'_, '_, R> {
         }
     }
 
-    /// Reads what is asked over `noted`. Where a URL names the file, the first answer ends it, if no later one is expected to be used. Returns
-    /// the world file of a window, if one is asked for.
+    /// Reads what is asked over `noted`. Where a URL names the file, the first answer ends it, if no later one is expected to be used.
+    /// Returns the world file of a window, if one is asked for.
     fn fetch_used<P: Pieces>(
         &self,
         client: &mut Client,
@@ -245,8 +245,8 @@ impl<R: Eprint + Clock + AllocGlobal> Exchanges<'_, '_, R> {
 
     /// Reads what is asked over `noted`, and returns its text: a picture, whose samples the client lends, the lines of Info, or a
     /// description. It prints exchanges, and why there is no text, as `verbosity` says. Fails with `OfFile` where the report is a fault,
-    /// and with `NoReport` where no report has what is asked. Fails with `NoWindow` where a rectangle gives no window of the file. Fails with `NotUsed` where a URL names the file and the first answer can't be
-    /// used, and with `Memory` where no memory is left.
+    /// and with `NoReport` where no report has what is asked. Fails with `NoWindow` where a rectangle gives no window of the file. Fails
+    /// with `NotUsed` where a URL names the file and the first answer can't be used, and with `Memory` where no memory is left.
     pub fn text<'c, P: Pieces>(
         &self,
         client: &'c mut Client,

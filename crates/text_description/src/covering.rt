@@ -68,8 +68,8 @@ fn end_pixel(first: f64, high: f64) -> f64
     if least <= end { end } else { least }
 }
 
-/// Returns the first pixel that the interval from `low` to `high` meets among `count` pixels, and how many it meets. Returns `None` where it
-/// meets none.
+/// Returns the first pixel that the interval from `low` to `high` meets among `count` pixels, and how many it meets. Returns `None` where
+/// it meets none.
 fn pixels_met(count: u32, low: f64, high: f64) -> Option<(u32, u32)>
     ensures met { result ≡ pixels_met count low high }
     ensures within { IfSome result (IsWithin count) }
@@ -184,8 +184,8 @@ fn window(x: u32, y: u32, w: u32, h: u32, level: u32) -> Query
     Query::Window { x, y, w, h, pick }
 }
 
-/// Returns the window of a level of `sides` columns and rows that a rectangle meets, where level 0 has `whole` of them and lies as `placement`
-/// says. For a level that isn't there, it is a window that isn't there, either.
+/// Returns the window of a level of `sides` columns and rows that a rectangle meets, where level 0 has `whole` of them and lies as
+/// `placement` says. For a level that isn't there, it is a window that isn't there, either.
 fn met_by(
     placement: Option<Placement>,
     whole: Option<(u32, u32)>,

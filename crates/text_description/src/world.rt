@@ -47,8 +47,8 @@ fn world_at(placement: &Placement, column: u32, row: u32) -> WorldFile
     }
 }
 
-/// Returns the same for a column and a row of a level of `sides` columns and rows, where level 0 has `whole` of them and lies as `placement`
-/// says.
+/// Returns the same for a column and a row of a level of `sides` columns and rows, where level 0 has `whole` of them and lies as
+/// `placement` says.
 fn world_by(
     placement: Option<Placement>,
     whole: Option<(u32, u32)>,
@@ -75,8 +75,8 @@ fn world_in(info: &Info, level: u32, column: u32, row: u32) -> Option<WorldFile>
     world_by(placement_by(info), whole, sides, column, row)
 }
 
-/// Returns the world file of a window of a level, or `None` where the file doesn't say where its pixels lie. A query that isn't for a window
-/// in the pixels of its level has none, either.
+/// Returns the world file of a window of a level, or `None` where the file doesn't say where its pixels lie. A query that isn't for a
+/// window in the pixels of its level has none, either.
 #[tactic(auto, unfolding(crate::specs::World::world_file))]
 pub fn world_file(info: &Info, query: &Query) -> Option<WorldFile>
     ensures { result ≡ world_file info.now query.now }
