@@ -11,6 +11,7 @@ use Rattle.tiff_dir.specs.Level.{level_directories, level_directory}
 use Rattle.http_range.specs.Book.{Publication, Book, HasDistinctTags, In}
 use Rattle.http_range.specs.Laws.{TagsTellOne}
 use Rattle.cog_reader.specs.declared.outcome.Info.{Info}
+use Rattle.cog_reader.specs.declared.outcome.Outcome.{Outcome}
 use Rattle.cog_reader.specs.declared.outcome.Outcome.TheVariants as outcome
 use Rattle.cog_reader.specs.Outcome.{IsInfoOf, IsTrueOf}
 use Rattle.cog_client.specs.declared.report.Report.{Report}
@@ -18,6 +19,7 @@ use Rattle.cog_client.specs.Client.{ClientState, ClientAgrees, query_of}
 use Rattle.cog_client.specs.Keeps.{Stands}
 use Rattle.read_command.specs.declared.error.ReadError.{ReadError}
 use Rattle.read_command.specs.declared.reading.Asked.{Asked}
+use Rattle.read_command.specs.declared.reading.Asked.TheVariants as asked
 use Rattle.read_command.specs.declared.text.Text.{Text}
 use Rattle.tiff_dir.specs.declared.query.Query.{Query}
 use Rattle.text_description.specs.World.{world_file}
@@ -112,6 +114,14 @@ window_other area.Whole level q (width, height, is) = λ same. cc
 window_other (area.Bounds b) level (Window x y w h pick) of = λ same. cc
 window_other (area.Bounds b) level AnInfo of = absurd of
 window_other (area.Pixels x y w h) level q is = λ same. cc
+
+-- a text that has a world file beside it is what it was
+pub beside_text : (a : Asked) (tag : List ℕ) (o : Outcome) (text : Text) (world : Option WorldFile) → IsWritten a tag o (Ok text) → IsWritten a tag o (Ok (record text { world = world }))
+beside_text a tag (outcome.Window v) text world says = says
+beside_text (asked.Query query) tag (outcome.Info i) text world says = says
+beside_text (asked.Part part) tag (outcome.Info i) text world says = says
+beside_text (asked.Description form) tag (outcome.Info i) text world says = says
+beside_text a tag (outcome.Fault fault) text world says = cc
 
 -- What is written of the report that stands is true of one publication of the book.
 pub true_of_book : (name : List ℕ) (book : Book) (a : Asked) (c : ClientState) (r : Report) (world : Option WorldFile) (written : Result Text ReadError) → ((p : Publication) → In p book → p.name ≡ name) → ClientAgrees c book
