@@ -204,7 +204,8 @@ fn add_bounds<'a>(alloc: Global, arguments: &mut Vec<Arg<'a>>) -> Result<(), All
         .num_args(4)
         .value_names(&["W", "S", "E", "N"])
         .allow_hyphen_values(true);
-    try_add(arguments, bounds.conflicts_with_all(&["columns", "whole"]))
+    let bounds = bounds.conflicts_with("columns")?;
+    try_add(arguments, bounds.conflicts_with("whole"))
 }
 
 /// Appends the option that asks for a world file.

@@ -14,13 +14,13 @@ use Rattle.command_lines.specs.declared.read.ReadLine.{ReadLine}
 use Rattle.command_lines.specs.declared.read.WindowWords.{WindowWords}
 use Rattle.cog_client.specs.declared.error.ClientError.{ClientError}
 use Rattle.programs.specs.declared.exit.Exit.{Exit}
-use Rattle.programs.specs.declared.exit.Exit.TheVariants.{Memory, NoRectangle, NotACoordinate, RefusedClient}
+use Rattle.programs.specs.declared.exit.Exit.TheVariants.{Memory, RefusedClient}
 use Rattle.read_command.specs.declared.part.Area.{Area}
 use Rattle.read_command.specs.declared.part.Area.TheVariants as area
 use Rattle.read_command.specs.declared.part.Part.{Part}
 use Rattle.read_command.specs.declared.reading.Asked.{Asked}
 use Rattle.read_command.specs.declared.reading.Asked.TheVariants as asked
-use Rattle.programs.specs.Bounds.{IsBounds, IsNoBounds}
+use Rattle.programs.specs.Bounds.{IsBounds, IsNoBounds, IsOfRectangle}
 use Rattle.programs.specs.Number.{number_or, IsOfNumber}
 
 -- a number of 32 bits
@@ -89,15 +89,14 @@ AsksNothing (words.Window window) = IsNoWindow window
 AsksNothing (words.Whole level) = level_number (option_copied level) ≡ None
 AsksNothing (words.Bounds bounds) = IsNoBounds bounds ⊎ (level_number (option_copied bounds.level) ≡ None)
 
--- the fault is one of a rectangle, which is asked for
-abbrev pub IsOfBounds : AskedWords → Exit → Type 0
-IsOfBounds (words.Bounds bounds) (NotACoordinate told) = ⊤
-IsOfBounds (words.Bounds bounds) NoRectangle = ⊤
-IsOfBounds w fault = ⊥
+-- a rectangle is asked for
+abbrev pub AsksBounds : AskedWords → Type 0
+AsksBounds (words.Bounds bounds) = ⊤
+AsksBounds w = ⊥
 
--- one of the words is no number, or they have no rectangle, or memory is wanting
+-- one of the words is no number, or those of a rectangle have none, or memory is wanting
 abbrev pub IsOfWords : AskedWords → Exit → Type 0
-IsOfWords w fault = IsOfNumber fault ⊎ IsOfBounds w fault
+IsOfWords w fault = IsOfNumber fault ⊎ (AsksBounds w × IsOfRectangle fault)
 
 -- how many exchanges at most, how many blocks are kept, and how many blocks a request may ask for behind those that are needed next, by the
 -- words of these options, or without them

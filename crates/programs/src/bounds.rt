@@ -7,6 +7,7 @@ use command_lines::BoundsWords;
 use text_description::Bounds;
 
 /// Returns the finite number that a word writes, as the nearest double. Fails with `NotACoordinate`, or with `Memory`.
+#[tactic(auto, using(crate::proofs::BoundsLemmas::finite_is, crate::proofs::BoundsLemmas::infinite_is, crate::proofs::BoundsLemmas::none_is))]
 fn coordinate<R: AllocGlobal>(rt: &R, word: &str) -> Result<f64, Exit>
     ensures ok { IfOk result (λ x. coordinate word.now ≡ Some x) }
     ensures err { OnErr result (coordinate word.now ≡ None) }
