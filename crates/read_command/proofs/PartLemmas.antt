@@ -28,12 +28,13 @@ use Rattle.text_description.specs.declared.world.WorldFile.{WorldFile}
 use Rattle.read_command.specs.declared.part.Area.{Area}
 use Rattle.read_command.specs.declared.part.Area.TheVariants as area
 use Rattle.read_command.specs.declared.part.Given.{Given}
+use Rattle.read_command.specs.declared.part.NotGiven.{NotGiven}
 use Rattle.read_command.specs.declared.part.Part.{Part}
 use Rattle.read_command.specs.Exchanges.{AsksOf, IsWindowFor}
 use Rattle.read_command.specs.Part.{area_window, given_in, part_given, whole_window, with_world}
 use Rattle.read_command.specs.Text.{sides_of_level, HasWorld, IsFor, IsOfArea, IsOfPart, IsOfPartBy, IsOfWhole, IsTrueOfBook, IsWorldOf, IsWritten}
 
-ok_or : {T E : Type 0} → T → Result T E → T
+abbrev ok_or : {T E : Type 0} → T → Result T E → T
 ok_or x (Ok y) = y
 ok_or x (Err e) = x
 
@@ -105,7 +106,7 @@ given_told one book distinct c r i part g stands agrees is given p among tag =
     subst (λ (x : Publication). IsOfPart x.file part g.window g.world) equal (part_is true_of.source.file i part g info.1 given)
 
 -- Info that gives no window for a part, for some reason, gives none
-pub gives_none : (i : Info) (part : Part) (why : ReadError) → part_given i part ≡ Err why → is_ok (part_given i part) ≡ true → ⊥
+pub gives_none : (i : Info) (part : Part) (why : NotGiven) → part_given i part ≡ Err why → is_ok (part_given i part) ≡ true → ⊥
 gives_none i part why refuses gives = true≢false (sym gives ∙ ap is_ok refuses)
 
 -- a window of a level isn't Info

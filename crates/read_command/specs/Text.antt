@@ -23,6 +23,8 @@ use Rattle.read_command.specs.declared.error.ReadError.{ReadError}
 use Rattle.read_command.specs.declared.error.ReadError.TheVariants.{NoReport, NotUsed, NoWindow, NoWorld, OfFile, Memory}
 use Rattle.read_command.specs.declared.part.Area.{Area}
 use Rattle.read_command.specs.declared.part.Area.TheVariants as area
+use Rattle.read_command.specs.declared.part.NotGiven.{NotGiven}
+use Rattle.read_command.specs.declared.part.NotGiven.TheVariants as not_given
 use Rattle.read_command.specs.declared.part.Part.{Part}
 use Rattle.read_command.specs.declared.reading.Asked.{Asked}
 use Rattle.read_command.specs.declared.reading.Asked.TheVariants as asked
@@ -79,7 +81,7 @@ GivesWindow (asked.Part part) (outcome.Info i) = is_ok (part_given i part) ≡ t
 GivesWindow a o = ⊥
 
 -- a part of a level is asked for, and Info stands, which gives no window for it, or no world file, for this reason
-abbrev pub GivesNone : Asked → Outcome → ReadError → Type 0
+abbrev pub GivesNone : Asked → Outcome → NotGiven → Type 0
 GivesNone (asked.Part part) (outcome.Info i) why = part_given i part ≡ Err why
 GivesNone a o why = ⊥
 
@@ -93,8 +95,8 @@ IsWritten (asked.Part part) tag (outcome.Info i) (Ok text) = ⊥
 IsWritten (asked.Description form) tag (outcome.Info i) (Ok text) = text.samples.now ≡ []
 IsWritten a tag (outcome.Fault fault) written = written ≡ Err (OfFile fault)
 IsWritten a tag o (Err NoReport) = GivesWindow a o
-IsWritten a tag o (Err (NoWindow why)) = GivesNone a o (NoWindow why)
-IsWritten a tag o (Err NoWorld) = GivesNone a o NoWorld
+IsWritten a tag o (Err (NoWindow why)) = GivesNone a o (not_given.NoWindow why)
+IsWritten a tag o (Err NoWorld) = GivesNone a o not_given.NoWorld
 IsWritten a tag o (Err (OfFile fault)) = o ≡ outcome.Fault fault
 IsWritten a tag o (Err (NotUsed why)) = ⊥
 IsWritten a tag o (Err Memory) = ⊤

@@ -7,6 +7,6 @@ mod reading;
 mod text;
 
 pub use error::ReadError;
-pub use part::{Area, Given, Part};
+pub use part::{Area, Given, NotGiven, Part};
 pub use reading::{Asked, Exchanges, Verbosity};
 pub use text::Text;

@@ -4,7 +4,6 @@ ghost use Rattle.std.specs.Option.{unwrap_or};
 ghost use Rattle.read_command.specs.Exchanges.{IsWindowFor};
 ghost use Rattle.read_command.specs.Part.{area_window, part_given, whole_window, with_world};
 
-use crate::error::ReadError;
 use cog_client::{Info, Query};
 use text_description::{Bounds, NoPixels, WorldFile, level_sides, window_covering, world_file};
 use tiff_dir::Pick;
@@ -34,6 +33,15 @@ pub struct Part {
 pub struct Given {
     pub window: Query,
     pub world: Option<WorldFile>,
+}
+
+/// Says why Info gives nothing for a part.
+#[derive(Clone, Copy, Debug, PartialEq, Eq)]
+pub enum NotGiven {
+    /// A rectangle gives no window, for this reason.
+    NoWindow(NoPixels),
+    /// A world file is asked for, and the file doesn't say where its pixels lie.
+    NoWorld,
 }
 
 /// Returns the window that is the whole of a level, or one pixel of a level that the file doesn't have.
@@ -67,7 +75,7 @@ impl Area {
 }
 
 /// Returns a window with its world file, where one is asked for. Fails with `NoWorld` where that isn't there.
-fn with_world(has_world: bool, window: Query, world: Option<WorldFile>) -> Result<Given, ReadError>
+fn with_world(has_world: bool, window: Query, world: Option<WorldFile>) -> Result<Given, NotGiven>
     ensures is { result ≡ with_world has_world window world }
     ensures window { IfOk result (λ given. given.window ≡ window) }
 {
@@ -76,7 +84,7 @@ fn with_world(has_world: bool, window: Query, world: Option<WorldFile>) -> Resul
             window,
             world: None,
         }),
-        (true, None) => Err(ReadError::NoWorld),
+        (true, None) => Err(NotGiven::NoWorld),
         (true, world) => Ok(Given { window, world }),
     }
 }
@@ -85,13 +93,13 @@ impl Part {
     /// Returns the window of this part, and its world file if one is asked for, by what Info says of the file. Fails with `NoWindow` where
     /// a rectangle gives no window, and with `NoWorld` where the file doesn't say where its pixels lie.
     #[tactic(auto, unfolding(crate::specs::Part::part_given))]
-    pub(crate) fn given(&self, info: &Info) -> Result<Given, ReadError>
+    pub(crate) fn given(&self, info: &Info) -> Result<Given, NotGiven>
         ensures is { result ≡ part_given info.now self.now }
         ensures asked { IfOk result (λ given. IsWindowFor self.now.area self.now.level given.window) }
     {
         match self.area.window(info, self.level) {
             Ok(window) => with_world(self.has_world, window, world_file(info, &window)),
-            Err(why) => Err(ReadError::NoWindow(why)),
+            Err(why) => Err(NotGiven::NoWindow(why)),
         }
     }
 }

@@ -11,12 +11,12 @@ ghost use Rattle.cog_client.specs.Transport.{Anything, FetchesAll, FetchesSome, 
 ghost use Rattle.cog_fetch.specs.Takes.{TakenOf};
 ghost use Rattle.read_progress.specs.Noted.{IsRefused, source_of};
 ghost use Rattle.read_command.specs.declared.error.ReadError.TheVariants.{NoReport, NotUsed};
-ghost use Rattle.read_command.specs.declared.reading.Asked.TheVariants.{Part};
+ghost use Rattle.read_command.specs.declared.reading.Asked.TheVariants.{Part as APart};
 ghost use Rattle.read_command.specs.Exchanges.{AsksOf, Ends, EndsUnused, IsAtOnce, IsUnused, IsWindowFor, ReadsSome, StillReads, StopsReading};
 ghost use Rattle.read_command.specs.Text.{GivesWindow, HasNothing, IsOfFile, IsOfPartBy, IsWritten, StaysWithin, WritesTrue};
 
 use crate::error::ReadError;
-use crate::part::{Given, Part};
+use crate::part::{Given, NotGiven, Part};
 use crate::text::Text;
 use cog_client::{Client, FetchError, Outcome, Pieces, Query, Report, Tag, Why};
 use cog_fetch::fetch_pieces;
@@ -117,15 +117,15 @@ impl<R: Eprint + Clock + AllocGlobal> Exchanges<'_, '_, R> {
     ) -> Result<Option<WorldFile>, FetchError>
         ensures reads { StillReads (P.speaks_for (source_of noted.old)) (P.speaks_for (source_of noted.new)) client.old client.new }
         ensures asks { (book : Book) → ReadsBook (P.speaks_for (source_of noted.old)) client.old book
-            → IfOk result (AsksOf book (Part part) client.new) }
+            → IfOk result (AsksOf book (APart part) client.new) }
         ensures few { StaysWithin self.now.requests (P.count (source_of noted.old)) (P.count (source_of noted.new)) }
 
-        ensures ends { OnOk result (Ends (Part part) self.now.requests (P.count (source_of noted.new)) client.old client.new) }
+        ensures ends { OnOk result (Ends (APart part) self.now.requests (P.count (source_of noted.new)) client.old client.new) }
 
         // `queries`: queries for what is asked are opened one after another, with exchanges for each, and nothing else is done to the
         // client. `stops`: where no memory was left, that was in the exchanges for the last of them.
-        ensures queries { OnOk result (ReadsSome (Part part) client.old client.new) }
-        ensures stops { OnErr result (StopsReading (Part part) client.old client.new) }
+        ensures queries { OnOk result (ReadsSome (APart part) client.old client.new) }
+        ensures stops { OnErr result (StopsReading (APart part) client.old client.new) }
     {
         for _ in 0..self.requests {
             client.open(Query::Info);
@@ -328,7 +328,8 @@ impl<R: Eprint + Clock + AllocGlobal> Exchanges<'_, '_, R> {
                 },
                 Asked::Part(part) => match part.given(info) {
                     Ok(_) => Err(ReadError::NoReport),
-                    Err(why) => Err(why),
+                    Err(NotGiven::NoWindow(why)) => Err(ReadError::NoWindow(why)),
+                    Err(NotGiven::NoWorld) => Err(ReadError::NoWorld),
                 },
             },
             Outcome::Fault(fault) => {
@@ -343,14 +344,14 @@ impl<R: Eprint + Clock + AllocGlobal> Exchanges<'_, '_, R> {
 
 /// Returns the ETag of a client's report of Info, and what that gives for a part of a level. Where the level isn't there, the window isn't,
 /// either. Returns `None` where no report of Info stands, and where it gives no window or no world file.
-#[tactic(auto, using(crate::proofs::PartLemmas::given_told))]
+#[tactic(auto, using(crate::proofs::PartLemmas::given_told, crate::proofs::PartLemmas::gives_none, crate::proofs::PartLemmas::window_other))]
 fn given_told(client: &Client, part: Part) -> Option<(Tag, Given)>
     ensures given { (book : Book) → HasDistinctTags book → ClientAgrees client.now book
         → IfSome result (λ told. IsOfPartBy book told.0 part told.1.window told.1.world) }
     ensures asked { IfSome result (λ told. IsWindowFor part.area part.level told.1.window) }
     ensures window { IfSome result (λ told. told.1.window ≢ AnInfo) }
     ensures told { IfSome result (λ told. IsSomeAnd (report_of client.now) (λ r. r.tag ≡ told.0)) }
-    ensures none { result ≡ None → IfSome (report_of client.now) (λ r. GivesWindow (Part part) r.outcome → ⊥) }
+    ensures none { result ≡ None → IfSome (report_of client.now) (λ r. GivesWindow (APart part) r.outcome → ⊥) }
 {
     law_fronts_are_read();
     let report = client.report()?;
