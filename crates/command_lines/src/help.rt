@@ -36,6 +36,7 @@ Exit status:
   0  The report is written
   1  Standard output or the file of --output can't be written, or out of memory
   2  The words aren't those above, a URL names no file of a server, or `refused N`: 1 the server, 2 the name
+     Or --bounds meets no pixel, or --bounds or --world stand and the file doesn't say where its pixels lie
   3  A fault of the file
   4  `no report` stands after all requests";
 

@@ -1,2 +1,3 @@
+mod BoundsLemmas
 mod FileLemmas
 mod NamedLemmas

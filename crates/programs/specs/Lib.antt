@@ -1,3 +1,4 @@
+pub mod Bounds
 pub mod Files
 pub mod NamedFiles
 pub mod Number

@@ -4,12 +4,14 @@ ghost use Rattle.std.specs.Option.{option_copied};
 ghost use Rattle.cog_client.specs.Calls.{Starts};
 ghost use Rattle.cog_client.specs.Client.{client_refusal};
 ghost use Rattle.programs.specs.Number.{IsOfNumber};
-ghost use Rattle.programs.specs.Words.{AsksNothing, HasNoNumber, IsAsked, IsNoClient, IsNoPick, IsNoWindow, IsPick, IsWindow, ahead_number, blocks_number, requests_number};
+ghost use Rattle.programs.specs.Words.{AsksNothing, HasNoNumber, IsAsked, IsNoClient, IsNoPick, IsNoWindow, IsOfWords, IsPick, IsWindow, ahead_number, asked_window, blocks_number, requests_number};
 
+use crate::bounds::bounds;
 use crate::exit::Exit;
 use crate::local;
 use crate::local::{is_plain_file, server_of_file, source_of};
 use crate::number::{number, number_or};
+use crate::world::world_path;
 use client_sockets::Socket;
 use cog_client::{Client, ClientError, Pieces, Query};
 use command_lines::{
@@ -18,7 +20,7 @@ use command_lines::{
 };
 use disk_files::replace_file;
 use range_cache::{MAX_CAPACITY, MIN_CAPACITY};
-use read_command::{Asked, Exchanges, ReadError, Text};
+use read_command::{Area, Asked, Exchanges, Part, ReadError, Text};
 use read_progress::{Noted, NotedNet, Printing, RefusalSentence, Verbosity};
 use std::alloc::{AllocError, Global};
 use std::io;
@@ -67,32 +69,63 @@ fn window<R: AllocGlobal>(rt: &R, words: &WindowWords<'_>) -> Result<Query, Exit
     })
 }
 
-fn asked<R: AllocGlobal>(rt: &R, words: AskedWords<'_>) -> Result<Asked, Exit>
-    ensures ok { IfOk result (IsAsked words.entry) }
+/// Returns a window as what is asked of a file. With `has_world` it is a part of its level, whose world file is asked for, too.
+fn asked_window(query: Query, has_world: bool) -> Asked
+    ensures { result ≡ asked_window query has_world }
+{
+    match (query, has_world) {
+        (
+            Query::Window {
+                x,
+                y,
+                w,
+                h,
+                pick: Pick::Level(level),
+            },
+            true,
+        ) => Asked::Part(Part {
+            area: Area::Pixels { x, y, w, h },
+            level,
+            has_world,
+        }),
+        (query, _) => Asked::Query(query),
+    }
+}
+
+/// Returns what words ask for. With `has_world` the world file of a window is asked for, too.
+fn asked<R: AllocGlobal>(rt: &R, words: AskedWords<'_>, has_world: bool) -> Result<Asked, Exit>
+    ensures ok { IfOk result (IsAsked words.entry has_world) }
     ensures err { OnErr result (AsksNothing words.entry) }
-    ensures kinds { IfErr result IsOfNumber }
+    ensures kinds { IfErr result (IsOfWords words.entry) }
 {
     match words {
         AskedWords::Info => Ok(Asked::Query(Query::Info)),
         AskedWords::Description { is_json: true } => Ok(Asked::Description(Form::Json)),
         AskedWords::Description { is_json: false } => Ok(Asked::Description(Form::Words)),
-        AskedWords::Window(words) => Ok(Asked::Query(window(rt, &words)?)),
-        AskedWords::Whole { level } => Ok(Asked::Whole {
+        AskedWords::Window(words) => Ok(asked_window(window(rt, &words)?, has_world)),
+        AskedWords::Whole { level } => Ok(Asked::Part(Part {
+            area: Area::Whole,
             level: number_or(rt, level, 0, u32::MAX, 0)?,
-        }),
+            has_world,
+        })),
+        AskedWords::Bounds(words) => Ok(Asked::Part(Part {
+            area: Area::Bounds(bounds(rt, &words)?),
+            level: number_or(rt, words.level, 0, u32::MAX, 0)?,
+            has_world,
+        })),
     }
 }
 
 fn numbers_of<R: AllocGlobal>(rt: &R, line: &ReadLine<'_>) -> Result<Numbers, Exit>
-    ensures asked { IfOk result (λ numbers. IsAsked line.now.asked numbers.asked) }
+    ensures asked { IfOk result (λ numbers. IsAsked line.now.asked line.now.world numbers.asked) }
     ensures requests { IfOk result (λ numbers. requests_number (option_copied line.now.requests) ≡ Some numbers.requests) }
     ensures blocks { IfOk result (λ numbers. blocks_number (option_copied line.now.blocks) ≡ Some numbers.blocks) }
     ensures ahead { IfOk result (λ numbers. ahead_number (option_copied line.now.ahead) ≡ Some numbers.ahead) }
     ensures err { OnErr result (HasNoNumber line.now) }
-    ensures kinds { IfErr result IsOfNumber }
+    ensures kinds { IfErr result (IsOfWords line.now.asked) }
 {
     Ok(Numbers {
-        asked: asked(rt, line.asked)?,
+        asked: asked(rt, line.asked, line.world)?,
         requests: number_or(rt, line.requests, 1, 65_536, 64)?,
         blocks: number_or(rt, line.blocks, MIN_CAPACITY, MAX_CAPACITY, 256)?,
         ahead: number_or(rt, line.ahead, 0, 64, 0)?,
@@ -178,15 +211,18 @@ where
     exchanges.text(client, &mut noted, numbers.asked)
 }
 
-/// Writes a text to the line's file, or to standard output.
-fn write_text<R>(rt: &R, line: &ReadLine<'_>, text: &Text<'_>) -> Result<(), Exit>
+/// Writes a file of the disk whole, or leaves it as it was.
+fn write_file<R>(
+    rt: &R,
+    line: &ReadLine<'_>,
+    path: &str,
+    head: &[u8],
+    rest: &[u8],
+) -> Result<(), Exit>
 where
-    R: Files + Print + Eprint + AllocGlobal,
+    R: Files + Eprint + AllocGlobal,
 {
-    let Some(path) = line.output else {
-        return Ok(text.write_to(&mut io::writer(rt))?);
-    };
-    match replace_file(rt, path, &text.head, text.samples) {
+    match replace_file(rt, path, head, rest) {
         Ok(()) => Ok(()),
         Err(error) if error.kind() == io::ErrorKind::OutOfMemory => Err(Exit::Memory),
         Err(error) => {
@@ -196,6 +232,23 @@ where
             Err(Exit::CantWriteFile(String::from_str(rt.alloc(), path)?))
         }
     }
+}
+
+/// Writes a text to the line's file, and its world file beside it, or the text to standard output.
+fn write_text<R>(rt: &R, line: &ReadLine<'_>, text: &Text<'_>) -> Result<(), Exit>
+where
+    R: Files + Print + Eprint + AllocGlobal,
+{
+    let Some(path) = line.output else {
+        return Ok(text.write_to(&mut io::writer(rt))?);
+    };
+    write_file(rt, line, path, &text.head, text.samples)?;
+    let Some(world) = text.world else {
+        return Ok(());
+    };
+    let beside = world_path(rt.alloc(), path)?;
+    let lines = format!(in rt.alloc(); "{world}")?;
+    write_file(rt, line, beside.as_str(), lines.as_bytes(), b"")
 }
 
 /// Reads what a line asks for over sockets, and writes it. With `is_url` a URL names the file.

@@ -93,9 +93,11 @@ Usage: {name} cogserve FILE..
        {name} cogread info SERVER NAME [--requests N] [--blocks N] [--ahead N] [--keep]
        {name} cogread describe SERVER NAME [--json] [--requests N] [--blocks N] [--ahead N] [--keep]
        {name} cogread window .. --whole [--level N] ..
+       {name} cogread window .. --bounds W S E N [--level N] ..
        {name} cogread .. http://HOST[:PORT]/NAME .. [--close]
        {name} cogread .. FILE ..
        {name} cogread .. [--output FILE] [--verbose | --progress]
+       {name} cogread window .. --output FILE --world
        {name} cogworld [--pieces N] SCRIPT
        {name} --version
 

@@ -9,6 +9,7 @@ use read_progress::WhySentence;
 use scripts::ScriptError;
 use std::alloc::AllocError;
 use std::{fmt, io};
+use text_description::NoPixels;
 use text_report::ExplainedFault;
 use tiff_dir::FileFault;
 
@@ -23,6 +24,14 @@ pub enum Exit {
     CommandLine(clap::Error),
     /// A word of the command line isn't a number of its range.
     NotANumber(String),
+    /// A word of a rectangle isn't a finite number.
+    NotACoordinate(String),
+    /// The west side of a rectangle is greater than the east side, or the south side than the north side.
+    NoRectangle,
+    /// A rectangle gives no window of the file that is read, for this reason.
+    NoWindow(NoPixels),
+    /// A world file is asked for, and the file that is read doesn't say where its pixels lie.
+    NoWorld,
     /// A word of the command line isn't `NAME=PATH`.
     NotAFile(String),
     /// A word of the command line isn't an origin.
@@ -80,6 +89,10 @@ impl Exit {
             | Exit::NotAProgram(_)
             | Exit::CommandLine(_)
             | Exit::NotANumber(_)
+            | Exit::NotACoordinate(_)
+            | Exit::NoRectangle
+            | Exit::NoWindow(_)
+            | Exit::NoWorld
             | Exit::NotAFile(_)
             | Exit::NotAnOrigin(_)
             | Exit::OneName(_, _, _)
@@ -154,6 +167,19 @@ impl fmt::Display for ExitLine<'_> {
             Exit::NotAProgram(word) => write!(f, "{program}: not a program: {word}"),
             Exit::CommandLine(error) => write!(f, "{error}"),
             Exit::NotANumber(word) => write!(f, "{program}: not a number: {word}"),
+            Exit::NotACoordinate(word) => write!(
+                f,
+                "{program}: not a number: {word}. Give --bounds W S E N: four numbers in the file's own coordinates"
+            ),
+            Exit::NoRectangle => write!(
+                f,
+                "{program}: no rectangle: W is greater than E, or S than N. Give --bounds W S E N"
+            ),
+            Exit::NoWindow(why) => write!(f, "{program}: no window: {why}"),
+            Exit::NoWorld => write!(
+                f,
+                "{program}: no world file: the file doesn't say where its pixels lie. Leave --world out"
+            ),
             Exit::NotAFile(word) => write!(f, "{program}: not a file: {word}"),
             Exit::NotAnOrigin(word) => write!(f, "{program}: not an origin: {word}"),
             Exit::OneName(name, first, second) => write!(
@@ -219,6 +245,8 @@ impl From<ReadError> for Exit {
             ReadError::OfFile(fault) => Exit::OfFile(fault),
             ReadError::NoReport => Exit::NoReport,
             ReadError::NotUsed(why) => Exit::NotUsed(why),
+            ReadError::NoWindow(why) => Exit::NoWindow(why),
+            ReadError::NoWorld => Exit::NoWorld,
             ReadError::Memory => Exit::Memory,
         }
     }

@@ -1,6 +1,7 @@
 //! Runs the programs `cogserve`, `cogread` and `cogworld`, as one command whose first word names one of them.
 #![tactic(auto)]
 
+mod bounds;
 mod cogread;
 mod cogserve;
 mod cogworld;
@@ -12,6 +13,7 @@ mod number;
 mod origin;
 mod quick;
 mod stored;
+mod world;
 
 pub use cogworld::write_log;
 pub use command::run;

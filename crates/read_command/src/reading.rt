@@ -1,5 +1,5 @@
 //! How `cogread` reads: how many exchanges it makes, what is asked of the file, and the text of its report.
-ghost use Rattle.std.specs.Prelude.{◌≡◌, ◌≢◌, ℕ, ◌+◌, ◌<◌, ◌≤◌, ◌^◌, ◌⊎◌, false, true, Err, IfErr, IfOk, IfSome, IsSome, IsSomeAnd, List, None, OnErr, OnOk, Option, Some, min, slice_get};
+ghost use Rattle.std.specs.Prelude.{◌≡◌, ◌≢◌, ℕ, ◌+◌, ◌<◌, ◌≤◌, ◌^◌, ◌⊎◌, false, true, Err, IfErr, IfOk, IfSome, IsSome, IsSomeAnd, List, None, OnErr, OnOk, Option, Some, min};
 ghost use Rattle.tiff_dir.specs.declared.query.Query.TheVariants.{Info as AnInfo};
 ghost use Rattle.http_range.specs.Book.{Book, HasDistinctTags};
 ghost use Rattle.http_range.specs.declared.reading.Why.{Why};
@@ -11,28 +11,28 @@ ghost use Rattle.cog_client.specs.Transport.{Anything, FetchesAll, FetchesSome, 
 ghost use Rattle.cog_fetch.specs.Takes.{TakenOf};
 ghost use Rattle.read_progress.specs.Noted.{IsRefused, source_of};
 ghost use Rattle.read_command.specs.declared.error.ReadError.TheVariants.{NoReport, NotUsed};
-ghost use Rattle.read_command.specs.declared.reading.Asked.TheVariants.{Whole};
-ghost use Rattle.read_command.specs.Exchanges.{AsksOf, Ends, EndsUnused, IsAskedFor, IsUnused, ReadsSome, StillReads, StopsReading};
-ghost use Rattle.read_command.specs.Text.{HasNothing, IsOfFile, IsOfWholeBy, IsWritten, StaysWithin, TellsSides, WritesTrue};
+ghost use Rattle.read_command.specs.declared.reading.Asked.TheVariants.{Part as APart};
+ghost use Rattle.read_command.specs.Exchanges.{AsksOf, Ends, EndsUnused, IsAtOnce, IsUnused, IsWindowFor, ReadsSome, StillReads, StopsReading};
+ghost use Rattle.read_command.specs.Text.{GivesWindow, HasNothing, IsOfFile, IsOfPartBy, IsWritten, StaysWithin, WritesTrue};
 
 use crate::error::ReadError;
+use crate::part::{Given, NotGiven, Part};
 use crate::text::Text;
-use cog_client::{Client, FetchError, Info, Outcome, Pieces, Query, Report, Tag, Why};
+use cog_client::{Client, FetchError, Outcome, Pieces, Query, Report, Tag, Why};
 use cog_fetch::fetch_pieces;
 use http_range::law_fronts_are_read;
 use read_progress::{Noted, Verbosity};
 use std::rt::Clock;
-use text_description::{Description, Form};
+use text_description::{Description, Form, WorldFile};
 use text_report::{FaultSentence, info_text, picture_head};
-use tiff_dir::Pick;
 
 /// Says what is asked of a file.
 #[derive(Clone, Copy, Debug)]
 pub enum Asked {
     /// The answer to a query.
     Query(Query),
-    /// The whole of a level.
-    Whole { level: u32 },
+    /// A part of a level. Info is read first, since it says which window that is.
+    Part(Part),
     /// What the file says of itself.
     Description(Form),
 }
@@ -92,51 +92,52 @@ impl<R: Eprint + Clock + AllocGlobal> Exchanges<'_, R> {
         Ok(())
     }
 
-    /// Reads the sides of a level, and then the whole of it. Where the file was replaced between, it begins again.
-    fn fetch_whole<P: Pieces>(
+    /// Reads Info, and then the window that a part of a level is by it. Where the file was replaced between, it begins again. Where Info
+    /// gives no window or no world file, it ends with Info. Returns the world file of the window, if one is asked for.
+    fn fetch_part<P: Pieces>(
         &self,
         client: &mut Client,
         noted: &mut Noted<'_, '_, R, P>,
-        level: u32,
-    ) -> Result<(), FetchError>
+        part: Part,
+    ) -> Result<Option<WorldFile>, FetchError>
         ensures reads { StillReads (P.speaks_for (source_of noted.old)) (P.speaks_for (source_of noted.new)) client.old client.new }
         ensures asks { (book : Book) → ReadsBook (P.speaks_for (source_of noted.old)) client.old book
-            → OnOk result (AsksOf book (Whole level) client.new) }
+            → IfOk result (AsksOf book (APart part) client.new) }
         ensures few { StaysWithin self.now.requests (P.count (source_of noted.old)) (P.count (source_of noted.new)) }
 
-        ensures ends { OnOk result (Ends (Whole level) self.now.requests (P.count (source_of noted.new)) client.old client.new) }
+        ensures ends { OnOk result (Ends (APart part) self.now.requests (P.count (source_of noted.new)) client.old client.new) }
 
         // `queries`: queries for what is asked are opened one after another, with exchanges for each, and nothing else is done to the
         // client. `stops`: where no memory was left, that was in the exchanges for the last of them.
-        ensures queries { OnOk result (ReadsSome (Whole level) client.old client.new) }
-        ensures stops { OnErr result (StopsReading (Whole level) client.old client.new) }
+        ensures queries { OnOk result (ReadsSome (APart part) client.old client.new) }
+        ensures stops { OnErr result (StopsReading (APart part) client.old client.new) }
     {
         for _ in 0..self.requests {
             client.open(Query::Info);
             self.fetch(client, noted)?;
-            let Some((tag, window)) = whole_of(client, level) else {
-                return Ok(());
+            let Some((tag, given)) = given_told(client, part) else {
+                return Ok(None);
             };
-            client.open(window);
+            client.open(given.window);
             self.fetch(client, noted)?;
             if !has_another_tag(client, &tag) {
-                return Ok(());
+                return Ok(given.world);
             }
         }
         client.open(Query::Info);
-        Ok(())
+        Ok(None)
     }
 
-    /// Reads what is asked over `noted`.
+    /// Reads what is asked over `noted`. Returns the world file of a window, if one is asked for.
     fn fetch_asked<P: Pieces>(
         &self,
         client: &mut Client,
         noted: &mut Noted<'_, '_, R, P>,
         asked: Asked,
-    ) -> Result<(), FetchError>
+    ) -> Result<Option<WorldFile>, FetchError>
         ensures reads { StillReads (P.speaks_for (source_of noted.old)) (P.speaks_for (source_of noted.new)) client.old client.new }
         ensures asks { (book : Book) → ReadsBook (P.speaks_for (source_of noted.old)) client.old book
-            → OnOk result (AsksOf book asked client.new) }
+            → IfOk result (AsksOf book asked client.new) }
         ensures few { StaysWithin self.now.requests (P.count (source_of noted.old)) (P.count (source_of noted.new)) }
         ensures ends { OnOk result (Ends asked self.now.requests (P.count (source_of noted.new)) client.old client.new) }
 
@@ -148,10 +149,11 @@ impl<R: Eprint + Clock + AllocGlobal> Exchanges<'_, R> {
         let query = match asked {
             Asked::Query(query) => query,
             Asked::Description(_) => Query::Info,
-            Asked::Whole { level } => return self.fetch_whole(client, noted, level),
+            Asked::Part(part) => return self.fetch_part(client, noted, part),
         };
         client.open(query);
-        self.fetch(client, noted)
+        self.fetch(client, noted)?;
+        Ok(None)
     }
 
     /// Makes the first exchange, if one is allowed. Returns why its answer isn't used, where no later one is expected to be.
@@ -197,30 +199,30 @@ impl<R: Eprint + Clock + AllocGlobal> Exchanges<'_, R> {
     }
 
     /// Reads what is asked over `noted`. Where a URL names the file, the first answer ends it, if no later one is expected to be used.
+    /// Returns the world file of a window, if one is asked for.
     fn fetch_used<P: Pieces>(
         &self,
         client: &mut Client,
         noted: &mut Noted<'_, '_, R, P>,
         asked: Asked,
-    ) -> Result<(), ReadError>
+    ) -> Result<Option<WorldFile>, ReadError>
         ensures reads { StillReads (P.speaks_for (source_of noted.old)) (P.speaks_for (source_of noted.new)) client.old client.new }
         ensures asks { (book : Book) → ReadsBook (P.speaks_for (source_of noted.old)) client.old book
-            → OnOk result (AsksOf book asked client.new) }
+            → IfOk result (AsksOf book asked client.new) }
         ensures few { StaysWithin self.now.requests (P.count (source_of noted.old)) (P.count (source_of noted.new)) }
-        ensures ends { ((level : ℕ) → asked ≢ Whole level) → OnOk result
+        ensures ends { IsAtOnce asked → OnOk result
             ((self.now.requests ≤ P.count (source_of noted.new)) ⊎ IsSome (report_of client.new)) }
         ensures refused { IfErr result (EndsUnused self.now.is_url (P.count (source_of noted.old)) (P.count (source_of noted.new))
             noted.new) }
     {
         self.begin(client, noted, asked)?;
-        self.fetch_asked(client, noted, asked)?;
-        Ok(())
+        Ok(self.fetch_asked(client, noted, asked)?)
     }
 
     /// Reads what is asked over `noted`, and returns its text: a picture, whose samples the client lends, the lines of Info, or a
-    /// description. It prints why there is no text, as the verbosity of `noted` says. Fails with `OfFile` where the report is a fault,
-    /// and with `NoReport` where no report has what is asked. Fails with `NotUsed` where a URL names the file and the first answer can't be
-    /// used, and with `Memory` where no memory is left.
+    /// description. It prints why there is no text, as the verbosity of `noted` says. Fails with `OfFile` where the report is a fault, and
+    /// with `NoReport` where no report has what is asked. Fails with `NoWindow` where a rectangle gives no window of the file. Fails with
+    /// `NotUsed` where a URL names the file and the first answer can't be used, and with `Memory` where no memory is left.
     pub fn text<'c, P: Pieces>(
         &self,
         client: &'c mut Client,
@@ -231,9 +233,9 @@ impl<R: Eprint + Clock + AllocGlobal> Exchanges<'_, R> {
         ensures truth { (book : Book)
             → ReadsBook (P.speaks_for (source_of noted.old)) client.old book → WritesTrue (name_of client.old) book asked result }
         // The source counts at most `requests` exchanges, unless it counted more before. `NoReport` is returned only after all of them, but
-        // for a whole level, which is read by several queries.
+        // for a part of a level, which is read by several queries.
         ensures few { StaysWithin self.now.requests (P.count (source_of noted.old)) (P.count (source_of noted.new)) }
-        ensures none { ((level : ℕ) → asked ≢ Whole level) → result ≡ Err NoReport
+        ensures none { IsAtOnce asked → result ≡ Err NoReport
             → self.now.requests ≤ P.count (source_of noted.new) }
         // `NotUsed` is returned only where a URL names the file, after one exchange at most, and gives the reason of the answer that came
         // then.
@@ -242,12 +244,13 @@ impl<R: Eprint + Clock + AllocGlobal> Exchanges<'_, R> {
     {
         let fetched = self.fetch_used(client, noted, asked);
         noted.end_line();
-        fetched?;
-        self.text_at(client, asked, noted.verbosity())
+        let world = fetched?;
+        let text = self.text_at(client, asked, noted.verbosity())?;
+        Ok(Text { world, ..text })
     }
 
-    /// Returns the text of the report that stands. Fails with `NoReport` only where none stands, or where it has the sides of a level that
-    /// is asked for as a whole.
+    /// Returns the text of the report that stands. Fails with `NoReport` only where none stands, or where it is one of Info that gives the
+    /// window of what is asked.
     fn text_at<'c>(
         &self,
         client: &'c Client,
@@ -295,6 +298,7 @@ impl<R: Eprint + Clock + AllocGlobal> Exchanges<'_, R> {
             Outcome::Window(window) => Ok(Text {
                 head: picture_head(alloc, window)?,
                 samples: &window.pixels,
+                world: None,
             }),
             Outcome::Info(info) => match asked {
                 Asked::Query(_) => Ok(Text::from(info_text(alloc, &report.tag, info)?)),
@@ -304,7 +308,11 @@ impl<R: Eprint + Clock + AllocGlobal> Exchanges<'_, R> {
                     }
                     None => Err(ReadError::NoReport),
                 },
-                Asked::Whole { .. } => Err(ReadError::NoReport),
+                Asked::Part(part) => match part.given(info) {
+                    Ok(_) => Err(ReadError::NoReport),
+                    Err(NotGiven::NoWindow(why)) => Err(ReadError::NoWindow(why)),
+                    Err(NotGiven::NoWorld) => Err(ReadError::NoWorld),
+                },
             },
             Outcome::Fault(fault) => {
                 if verbosity == Verbosity::Each && !self.is_url {
@@ -316,32 +324,26 @@ impl<R: Eprint + Clock + AllocGlobal> Exchanges<'_, R> {
     }
 }
 
-/// Returns the columns and rows of a level, or of one pixel where there is no such level.
-fn level_sides(info: &Info, level: u32) -> (u32, u32)
-    ensures { IfSome (slice_get info.now.sides.items level) (λ sides. sides ≡ result) }
-{
-    info.sides.get(level as usize).copied().unwrap_or((1, 1))
-}
-
-/// Returns the ETag of a client's report of Info, and the window that is the whole of a level by that report. Where the level isn't there,
-/// the window isn't, either. Returns `None` where no report of Info stands.
-#[tactic(auto, using(crate::proofs::WholeLemmas::whole_told))]
-fn whole_of(client: &Client, level: u32) -> Option<(Tag, Query)>
-    ensures whole { (book : Book) → HasDistinctTags book → ClientAgrees client.now book
-        → IfSome result (λ whole. IsOfWholeBy book whole.0 level whole.1) }
-    ensures asked { IfSome result (λ whole. IsAskedFor (Whole level) whole.1) }
-    ensures window { IfSome result (λ whole. whole.1 ≢ AnInfo) }
-    ensures told { IfSome result (λ whole. IsSomeAnd (report_of client.now) (λ r. r.tag ≡ whole.0)) }
-    ensures none { result ≡ None → IfSome (report_of client.now) (λ r. TellsSides (Whole level) r.outcome → ⊥) }
+/// Returns the ETag of a client's report of Info, and what that gives for a part of a level. Where the level isn't there, the window isn't,
+/// either. Returns `None` where no report of Info stands, and where it gives no window or no world file.
+#[tactic(auto, using(crate::proofs::PartLemmas::given_told, crate::proofs::PartLemmas::gives_none, crate::proofs::PartLemmas::window_other))]
+fn given_told(client: &Client, part: Part) -> Option<(Tag, Given)>
+    ensures given { (book : Book) → HasDistinctTags book → ClientAgrees client.now book
+        → IfSome result (λ told. IsOfPartBy book told.0 part told.1.window told.1.world) }
+    ensures asked { IfSome result (λ told. IsWindowFor part.area part.level told.1.window) }
+    ensures window { IfSome result (λ told. told.1.window ≢ AnInfo) }
+    ensures told { IfSome result (λ told. IsSomeAnd (report_of client.now) (λ r. r.tag ≡ told.0)) }
+    ensures none { result ≡ None → IfSome (report_of client.now) (λ r. GivesWindow (APart part) r.outcome → ⊥) }
 {
     law_fronts_are_read();
     let report = client.report()?;
     let Outcome::Info(info) = &report.outcome else {
         return None;
     };
-    let (w, h) = level_sides(info, level);
-    let (x, y, pick) = (0, 0, Pick::Level(level));
-    Some((report.tag.copy(), Query::Window { x, y, w, h, pick }))
+    match part.given(info) {
+        Ok(given) => Some((report.tag.copy(), given)),
+        Err(_) => None,
+    }
 }
 
 /// Returns whether a client's report has another ETag than `tag`. It has none where no report stands.

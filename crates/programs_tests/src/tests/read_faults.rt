@@ -3,7 +3,7 @@ use super::{FaultRow, expect_faults};
 use std::test::Fail;
 
 #[rattlefmt::skip]
-const FAULTS: [FaultRow<'static>; 30] = [
+const FAULTS: [FaultRow<'static>; 38] = [
     // Nobody listens there.
     ("cogread info 127.0.0.1:1 a", "cogread: no report\n", 4),
     ("cogread window 127.0.0.1:1 a 4294967295 0 1 1 --requests 2", "cogread: no report\n", 4),
@@ -40,6 +40,15 @@ const FAULTS: [FaultRow<'static>; 30] = [
         2,
     ),
     ("cogread info http://me@h/a", "cogread: not a place: http://me@h/a: a user's name or a password\n", 2),
+    // Rectangles: each number is finite, and the rectangle isn't turned over.
+    ("cogread window h a --bounds 1 x 2 3", "cogread: not a number: x. Give --bounds W S E N: four numbers in the file's own coordinates\n", 2),
+    ("cogread window h a --bounds 1 2 nan 3", "cogread: not a number: nan. Give --bounds W S E N: four numbers in the file's own coordinates\n", 2),
+    ("cogread window h a --bounds -inf 2 3 4", "cogread: not a number: -inf. Give --bounds W S E N: four numbers in the file's own coordinates\n", 2),
+    ("cogread window h a --bounds 1 2 3 1e999", "cogread: not a number: 1e999. Give --bounds W S E N: four numbers in the file's own coordinates\n", 2),
+    ("cogread window h a --bounds 2 1 1 2 --level x", "cogread: no rectangle: W is greater than E, or S than N. Give --bounds W S E N\n", 2),
+    ("cogread window h a --bounds 1 -1 2 -2", "cogread: no rectangle: W is greater than E, or S than N. Give --bounds W S E N\n", 2),
+    ("cogread window 127.0.0.1:1 a --bounds -2 -2 -1.5 -1e-5 --level x", "cogread: not a number: x\n", 2),
+    ("cogread window http://127.0.0.1:1/a --bounds -2 -2 -1.5 -1e-5", "cogread: no report\n", 4),
     // As it was before there were URLs: a server and a name.
     ("cogread info http://h/a b", "cogread: refused 1\n", 2),
 ];
