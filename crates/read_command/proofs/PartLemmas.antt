@@ -4,7 +4,6 @@ use Rattle.std.specs.Prelude.{slice_get, IfSome, IsSome, is_ok}
 use Rattle.std.specs.Option.{option_map, unwrap_or}
 use Rattle.std.proofs.lemmas.Option.{none-some, same_Some, slice_get-map}
 use Rattle.tiff_dir.specs.declared.query.Query.TheVariants.{Window, Info as AnInfo}
-use Rattle.tiff_dir.specs.declared.query.Pick.TheVariants.{Level}
 use Rattle.tiff_dir.specs.Fault.{sides}
 use Rattle.tiff_dir.specs.File.{◌>>=◌}
 use Rattle.tiff_dir.specs.Level.{level_directories, level_directory}

@@ -245,8 +245,10 @@ impl<R: Eprint + Clock + AllocGlobal> Exchanges<'_, R> {
         let fetched = self.fetch_used(client, noted, asked);
         noted.end_line();
         let world = fetched?;
-        let text = self.text_at(client, asked, noted.verbosity())?;
-        Ok(Text { world, ..text })
+        match self.text_at(client, asked, noted.verbosity()) {
+            Ok(text) => Ok(Text { world, ..text }),
+            Err(error) => Err(error),
+        }
     }
 
     /// Returns the text of the report that stands. Fails with `NoReport` only where none stands, or where it is one of Info that gives the
@@ -326,7 +328,7 @@ impl<R: Eprint + Clock + AllocGlobal> Exchanges<'_, R> {
 
 /// Returns the ETag of a client's report of Info, and what that gives for a part of a level. Where the level isn't there, the window isn't,
 /// either. Returns `None` where no report of Info stands, and where it gives no window or no world file.
-#[tactic(auto, using(crate::proofs::PartLemmas::given_told, crate::proofs::PartLemmas::gives_none, crate::proofs::PartLemmas::window_other))]
+#[tactic(auto, using(crate::proofs::PartLemmas::gives_none, crate::proofs::PartLemmas::window_other))]
 fn given_told(client: &Client, part: Part) -> Option<(Tag, Given)>
     ensures given { (book : Book) → HasDistinctTags book → ClientAgrees client.now book
         → IfSome result (λ told. IsOfPartBy book told.0 part told.1.window told.1.world) }

@@ -1,4 +1,4 @@
-use Rattle.std.proofs.Common.{◌≡◌, ◌≢◌, ◌∙◌, None, ℕ, refl, subst, sym, zero}
+use Rattle.std.proofs.Common.{◌≢◌, ◌∙◌, None, refl, subst, sym, zero}
 use Rattle.read_command.specs.declared.part.Part.{Part as APart}
 use Rattle.read_command.specs.declared.reading.Asked.TheVariants.{Part}
 use Rattle.read_command.specs.declared.reading.Asked.{Asked}
