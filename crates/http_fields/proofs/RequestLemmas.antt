@@ -1,7 +1,7 @@
 -- What a client's host, target and added lines are written with may stand in a request's head.
 use Rattle.std.proofs.Common.{◌≡◌, ℕ, ◌+◌, ◌-◌, ◌<◌, ◌≤◌, ◌⊎◌, Bool, true, false, List, [], ◌∷◌, ◌++◌, length, take, drop, get_or, refl, sym, ap, subst, ◌∙◌, arith, inl, inr, codes, reverse}
 use Rattle.std.specs.Prelude.{◌||◌, ◌&&◌, ◌==◌, not, nat_eq, nat_lt, nat_le}
-use Rattle.std.specs.List.{list_all, list_any}
+use Rattle.std.specs.List.{list_all, list_any, starts_with}
 use Rattle.std.specs.Char.{is_ascii_alphanumeric}
 use Rattle.std.specs.Str.{IsAscii}
 use Rattle.std.proofs.lemmas.Bool.{and_parts, and_from, or_left, or_right, ltb-true, false≢true}
@@ -159,11 +159,14 @@ authority_visible text h = pass is_authority_char authority_char_visible text (a
 target_chars : (text : List ℕ) → is_target text ≡ true → list_all is_target_char text ≡ true
 target_chars text h = (and_parts _ _ (and_parts _ _ h).0).1
 
+begins : (text : List ℕ) → is_target text ≡ true → starts_with nat_eq text (codes "/") ≡ true
+begins text h = (and_parts _ _ (and_parts _ _ (and_parts _ _ h).0).0).1
+
 slash : (text : List ℕ) → is_target text ≡ true → text ≡ 47 ∷ drop 1 text
-slash [] h = absurd (false≢true (and_parts _ _ (and_parts _ _ (and_parts _ _ h).0).0).1)
+slash [] h = let wrong : false ≡ true = begins [] h in absurd (false≢true wrong)
 slash (b ∷ rest) h =
-    let begins : (nat_eq 47 b && true) ≡ true = (and_parts _ _ (and_parts _ _ (and_parts _ _ h).0).0).1 in
-    ap (λ (x : ℕ). x ∷ rest) (sym (same 47 b (and_parts (nat_eq 47 b) true begins).0))
+    let first : (nat_eq 47 b && true) ≡ true = begins (b ∷ rest) h in
+    ap (λ (x : ℕ). x ∷ rest) (sym (same 47 b (and_parts (nat_eq 47 b) true first).0))
 
 -- ---- values
 
