@@ -82,7 +82,14 @@ enum {
     COG_NO_CLIENT = -5,    /* the handle has no client */
     COG_NO_REPORT = -6,    /* no report stands */
     COG_OTHER_REPORT = -7, /* the report is of another kind */
-    COG_ORDER = -8         /* the call doesn't fit what is under way */
+    COG_ORDER = -8,        /* the call doesn't fit what is under way */
+    DELGUNSAI_AUTHORITY = -9,       /* not host and port of a URL, 1 to 255 bytes without userinfo */
+    DELGUNSAI_TARGET = -10,         /* not path and query of a URL, at most 2,048 bytes */
+    DELGUNSAI_FIELD_NAME = -11,     /* the name of a field isn't a token */
+    DELGUNSAI_FIELD_RESERVED = -12, /* a field that the library writes itself, or that changes the connection or the answer */
+    DELGUNSAI_FIELD_VALUE = -13,    /* the value of a field isn't visible ASCII with spaces and tabs inside */
+    DELGUNSAI_FIELD_LINES = -14,    /* more than 16 fields */
+    DELGUNSAI_FIELD_BYTES = -15     /* fields of more than 1,024 bytes */
 };
 
 /* delgunsai_error: returns what a negative result says, as a sentence without a full stop. Any other number is "no error". */
@@ -96,12 +103,20 @@ static inline const char *delgunsai_error(int32_t result) {
     case COG_NO_REPORT: return "no report stands";
     case COG_OTHER_REPORT: return "the report is of another kind";
     case COG_ORDER: return "the call doesn't fit what is under way";
+    case DELGUNSAI_AUTHORITY: return "not host and port of a URL, 1 to 255 bytes without userinfo";
+    case DELGUNSAI_TARGET: return "not path and query of a URL, at most 2,048 bytes";
+    case DELGUNSAI_FIELD_NAME: return "the name of a field isn't a token";
+    case DELGUNSAI_FIELD_RESERVED: return "a field that the library writes itself, or that changes the connection or the answer";
+    case DELGUNSAI_FIELD_VALUE: return "the value of a field isn't visible ASCII with spaces and tabs inside";
+    case DELGUNSAI_FIELD_LINES: return "more than 16 fields";
+    case DELGUNSAI_FIELD_BYTES: return "fields of more than 1,024 bytes";
     default: return result < 0 ? "an error of another version" : "no error";
     }
 }
 
-/* Room for any request, and for any tag of a file. */
+/* Room for any request of a client of cog_client_new without added fields, for that of any client, and for any tag of a file. */
 #define COG_REQUEST_ROOM 1024
+#define DELGUNSAI_REQUEST_ROOM 4096
 #define COG_TAG_ROOM 64
 
 /* A handle: what holds a client. The caller owns it, and makes it of zeros: struct cog_client client = {0}. The client in it is the
@@ -120,6 +135,23 @@ struct cog_client {
  * Gives 0, COG_HOST, COG_NAME, COG_BLOCKS, the first that stands against it, or COG_MEMORY. */
 int32_t cog_client_new(const uint8_t *host, size_t host_length, const uint8_t *name, size_t name_length, uint32_t blocks,
                        struct cog_client *client);
+
+/* delgunsai_client_by_url: makes a client of the file that a URL of http names, with a cache as cog_client_new. The one before is freed.
+ *
+ *   - authority: host and port, as they stand in the URL: a name, an IPv4 address or an IPv6 address in brackets, with a port or none
+ *   - target: path and query, from the slash on; what isn't allowed there is percent-encoded (RFC 3986, section 2.1)
+ *   - client: the handle; where the result is negative, it is as it was
+ *
+ * Gives 0, DELGUNSAI_AUTHORITY, DELGUNSAI_TARGET, COG_BLOCKS, the first that stands against it, or COG_MEMORY. */
+int32_t delgunsai_client_by_url(const uint8_t *authority, size_t authority_length, const uint8_t *target, size_t target_length,
+                                uint32_t blocks, struct cog_client *client);
+
+/* delgunsai_client_add_field: adds a field to each request and check from here on, after those before, such as Authorization. What is asked
+ * for already stays. The name is a token (RFC 9110, section 5.6.2). The value is visible ASCII, with spaces and tabs inside (section 5.5).
+ * There are at most 16, and 1,024 bytes in all, with four for each. Gives 0, the first of DELGUNSAI_FIELD_.. that stands against it,
+ * COG_MEMORY or COG_NO_CLIENT. */
+int32_t delgunsai_client_add_field(struct cog_client *client, const uint8_t *name, size_t name_length, const uint8_t *value,
+                                   size_t value_length);
 
 /* cog_client_free: frees the client of a handle, if it has one; the handle is then as one of zeros. */
 void cog_client_free(struct cog_client *client);

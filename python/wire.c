@@ -7,7 +7,7 @@
 #include <sys/socket.h>
 #include <time.h>
 
-enum { ABI = 2 };                     /* of this file's calls and structs: a change of theirs changes it here and in _core.py */
+enum { ABI = 3 };                     /* of this file's calls and structs: a change of theirs changes it here and in _core.py */
 enum { SLICE = 100, WAIT = 20 };      /* milliseconds: until the interpreter is let look for signals; of one wait */
 
 struct wire {
@@ -55,7 +55,7 @@ static bool fail(struct wire *wire, ssize_t count) {
 
 /* Writes what waits, or the first of it, and says whether it did. */
 static bool write_some(struct cog_client *client, struct wire *wire) {
-    uint8_t text[16 * COG_REQUEST_ROOM];
+    uint8_t text[4 * DELGUNSAI_REQUEST_ROOM];
     int64_t length = delgunsai_client_waiting(client, text, sizeof text);
     ssize_t count = send(wire->socket, text, length < (int64_t)sizeof text ? (size_t)length : sizeof text, MSG_NOSIGNAL | MSG_DONTWAIT);
     return count > 0 ? delgunsai_client_wrote(client, (size_t)count) == 0 : fail(wire, count);

@@ -4,7 +4,7 @@ from __future__ import annotations
 import ctypes
 import pathlib
 import sys
-from typing import Any, Optional, Tuple, Union
+from typing import Any, Optional, Sequence, Tuple, Union
 
 import numpy
 from numpy.typing import NDArray
@@ -17,17 +17,27 @@ SAME, OTHER, UNKNOWN = 1, 2, 3
 CONNECT, WRITE, READ, LOOK, EXCHANGED, CHECKED, OVER, MORE = range(1, 9)
 ENDED, FAILED, LATE = 1, 2, 3
 
-ABI = 2
+ABI = 3
 """That of wire.c."""
-REQUEST_ROOM, TAG_ROOM, WAITING_ROOM = 1024, 64, 16384
+REQUEST_ROOM, TAG_ROOM, WAITING_ROOM = 4096, 64, 16384
 ROOM = 1 << 17
 AHEAD = 64
 EXCHANGES = 65536
 MEMORY = -4
+FIELDS = {
+    -11: 'its name is a token (RFC 9110, section 5.6.2)',
+    -12: 'the package writes it itself, or it would change the connection or the answer',
+    -13: 'its value is visible ASCII, with spaces and tabs inside',
+    -14: 'there are at most 16 fields',
+    -15: 'all fields together have at most 1,024 bytes, with four for each',
+}
+"""Why a field isn't added."""
 HUGE = 1 << 22
 """From how many bytes on numpy asks for huge pages."""
 
 Piece = Union[memoryview, bytes]
+Headers = Sequence[Tuple[bytes, bytes]]
+"""Names and values of fields."""
 NARROW: 'numpy.dtype[Any]' = numpy.dtype('u1')
 WIDE: 'numpy.dtype[Any]' = numpy.dtype('u2')
 Front = ctypes.c_char * 1
@@ -79,7 +89,8 @@ def _calls() -> Tuple[Any, ...]:
     size, result, length = ctypes.c_size_t, ctypes.c_int32, ctypes.c_int64
     said, step, wire = ctypes.POINTER(Said), ctypes.POINTER(Step), ctypes.POINTER(Wire)
     return (
-        ('cog_client_new', result, [text, size, text, size, number, client], True),
+        ('delgunsai_client_by_url', result, [text, size, text, size, number, client], True),
+        ('delgunsai_client_add_field', result, [client, text, size, text, size], False),
         ('cog_client_free', None, [client], True),
         ('cog_client_forget', result, [client], True),
         ('cog_client_keep_open', result, [client], False),
@@ -160,7 +171,7 @@ def room(report: Report, count: int) -> NDArray[Any]:
 class Core:
     """A client of one file of a host, whose requests, all but the check, let connections go on. One thread uses it at a time."""
 
-    def __init__(self, host: bytes, name: bytes, blocks: int) -> None:
+    def __init__(self, authority: bytes, target: bytes, blocks: int, headers: Headers = ()) -> None:
         self._handle = Handle()
         self._at = ctypes.byref(self._handle)
         self._room = ctypes.create_string_buffer(REQUEST_ROOM)
@@ -168,9 +179,20 @@ class Core:
         self._waiting_at = ctypes.addressof(Front.from_buffer(self._waiting))
         self._report = Report()
         self._report_at = ctypes.byref(self._report)
-        _checked(_library.cog_client_new(host, len(host), name, len(name), blocks, self._at))
+        _checked(_library.delgunsai_client_by_url(authority, len(authority), target, len(target), blocks, self._at))
+        for name, value in headers:
+            self._add(name, value)
         _checked(_library.cog_client_keep_open(self._at))
         _checked(_library.cog_client_look_ahead(self._at, AHEAD))
+
+    def _add(self, name: bytes, value: bytes) -> None:
+        """Adds a field to each request. Fails with `ValueError`, which doesn't show the value, where it can't be added."""
+        result = _library.delgunsai_client_add_field(self._at, name, len(name), value, len(value))
+        if result < 0:
+            self.free()
+        if result in FIELDS:
+            raise ValueError(f'headers: {name.decode("utf-8", "replace")!r}: {FIELDS[result]}')
+        _checked(result)
 
     def forget(self) -> None:
         """Drops all that is known of the file, and what is under way."""

@@ -12,7 +12,7 @@ import numpy
 from numpy.typing import NDArray
 
 from . import _core
-from ._core import Core, Many, Report, Step
+from ._core import Core, Headers, Many, Report, Step
 from ._errors import Error, Lost, NotUsed, fault_of
 from ._handlers import of_handler
 from ._info import Info, read_info
@@ -42,9 +42,9 @@ class File(Raster):
     (4, 16)
     """
 
-    def __init__(self, source: Source, host: bytes, name: bytes, blocks: int) -> None:
+    def __init__(self, source: Source, authority: bytes, target: bytes, blocks: int, headers: Headers = ()) -> None:
         self._source = source
-        self._client = host, name, blocks
+        self._client = authority, target, blocks, headers
         self._others: List[File] = []
         self._begin()
         self._open = True

@@ -4,7 +4,7 @@ from __future__ import annotations
 import os
 import re
 import ssl
-from typing import Optional, SupportsIndex, Union
+from typing import Mapping, Optional, SupportsIndex, Union
 
 from ._disk import Disk
 from ._file import File
@@ -16,7 +16,8 @@ URL = re.compile(r'[^/]*://|https?:', re.IGNORECASE)
 
 
 def open(place: Union[str, 'os.PathLike[str]'], *, blocks: SupportsIndex = 256, timeout: Optional[float] = 30.0,
-         deadline: Optional[float] = None, context: Optional[ssl.SSLContext] = None) -> File:
+         deadline: Optional[float] = None, context: Optional[ssl.SSLContext] = None,
+         headers: Optional[Mapping[str, str]] = None) -> File:
     """Opens a file at a URL of http or https, or of the disk. Nothing is read yet. A text with :// after its first word, or that begins
     with http: or https:, is a URL. Any other text, and each `os.PathLike`, is a path, as `open_file` takes it.
 
@@ -24,10 +25,11 @@ def open(place: Union[str, 'os.PathLike[str]'], *, blocks: SupportsIndex = 256, 
     `timeout` is how many seconds each attempt to connect may take (one for each address of the host), each TLS handshake, and each read and
     write, None for ever. An exchange that brought nothing is tried three times, so `Lost` may take several of them. `deadline` is how many
     seconds a whole call may take, None for ever. After it the call fails with `Late`, which is a `Lost`. `context` says which certificates
-    are trusted, those of the system without it. Proxies aren't used.
+    are trusted, those of the system without it. `headers` are fields that each request has as well, such as `Authorization`. They are shown
+    nowhere. Proxies aren't used.
 
     Fails with `BadUrl` where the URL is outside the rules, and with the `OSError` of the standard `open` where the path can't be opened.
-    Fails with `ValueError` where a number is outside its limits, and with `TypeError` where it is none.
+    Fails with `ValueError` where a number is outside its limits, or a field can't be added, and with `TypeError` for another type.
 
     >>> with open('http://127.0.0.1:8080/a.tif') as f:                              # doctest: +SKIP
     ...     f.levels
@@ -41,7 +43,15 @@ def open(place: Union[str, 'os.PathLike[str]'], *, blocks: SupportsIndex = 256, 
     if not isinstance(place, str) or not URL.match(place):
         return open_file(place, blocks=count)
     address = Address(place)
-    return File(Host(address, wait, context, most), address.netloc, address.name, count)
+    fields = [(_bytes(name), _bytes(value)) for name, value in (headers or {}).items()]
+    return File(Host(address, wait, context, most), address.netloc, address.target, count, fields)
+
+
+def _bytes(text: str) -> bytes:
+    """The text of a field. Fails with `TypeError`, which doesn't show it, where it is none."""
+    if not isinstance(text, str):
+        raise TypeError('headers: names and values are texts')
+    return text.encode('utf-8', 'surrogatepass')
 
 
 def open_file(path: Union[str, 'os.PathLike[str]'], *, blocks: SupportsIndex = 256) -> File:
@@ -52,4 +62,4 @@ def open_file(path: Union[str, 'os.PathLike[str]'], *, blocks: SupportsIndex = 2
     ...     f.levels
     [(64, 64), (32, 32), (16, 16)]
     """
-    return File(Disk(path), b'disk', b'file', number_of('blocks', blocks, 66, 4096))
+    return File(Disk(path), b'disk', b'/file', number_of('blocks', blocks, 66, 4096))

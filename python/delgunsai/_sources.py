@@ -4,6 +4,7 @@ from __future__ import annotations
 import contextlib
 import encodings.idna                                    # which getaddrinfo imports: half done at a fork it would hang the child
 import functools
+import ipaddress
 import os
 import re
 import socket
@@ -22,6 +23,10 @@ PORTS = {'http': 80, 'https': 443}
 TIMEOUTS = (socket.timeout, TimeoutError)                # one class from Python 3.10 on
 EMPTY = (BlockingIOError, ssl.SSLWantReadError)
 """What a stream that doesn't wait raises where nothing came."""
+NAMED = re.compile(r"([A-Za-z0-9._~!$&'()*+,;=-]|%[0-9A-Fa-f]{2})+(:[0-9]*)?", re.ASCII)
+"""A host that is a name, with a port or none (RFC 3986, section 3.2.2)."""
+TARGET = re.compile(r"/([A-Za-z0-9._~!$&'()*+,;=:@/?-]|%[0-9A-Fa-f]{2})*", re.ASCII)
+"""A path with a query or none, as it stands in a request (RFC 3986, sections 3.3 and 3.4)."""
 Judge = Callable[[Step, Optional[Exception]], bool]
 """Takes what an exchange brought, and why its connection was lost, and returns whether it brought something. It raises where no other
 exchange is to be made."""
@@ -70,7 +75,7 @@ class Source(Protocol):
 
 
 class Address:
-    """A URL inside the rules: its host with its port, and its path as the name of a file."""
+    """A URL inside the rules: its host with its port, and its path with its query."""
 
     def __init__(self, url: str) -> None:
         if re.search(r'[\x00-\x20\x7f]', url):
@@ -86,22 +91,29 @@ class Address:
             raise BadUrl(url, 'its scheme is http or https')
         if parts.username is not None or parts.password is not None:
             raise BadUrl(url, 'it has no user and no password')
-        if parts.query or '?' in url:
-            raise BadUrl(url, 'it has no query')
         if parts.fragment or '#' in url:
             raise BadUrl(url, 'it has no fragment')
         if port == 0:
             raise BadUrl(url, 'its port is 1 to 65535')
         self.host = parts.hostname or ''
         self.port = port or PORTS[parts.scheme]
-        if not re.fullmatch(r'[A-Za-z0-9.:-]{1,64}', parts.netloc, re.ASCII):
-            raise BadUrl(url, "its host is 1 to 64 letters, digits, '.', '-', ':'")
-        if not re.fullmatch(r'[^.]{1,63}(\.[^.]{1,63})*\.?', self.host):
+        if len(parts.netloc) > 255 or not (NAMED.fullmatch(parts.netloc) or _is_literal(parts.netloc)):
+            raise BadUrl(url, 'its host is a name, an IPv4 address or an IPv6 address in brackets, with its port at most 255 characters')
+        if not parts.netloc.startswith('[') and not re.fullmatch(r'[^.]{1,63}(\.[^.]{1,63})*\.?', self.host):
             raise BadUrl(url, 'its host is there, and each label of it has 1 to 63 characters')
         self.netloc = parts.netloc.encode('ascii')
-        if not re.fullmatch(r'/[A-Za-z0-9._/-]{1,200}', parts.path, re.ASCII):
-            raise BadUrl(url, 'its path is a slash and 1 to 200 bytes of A-Z a-z 0-9 . _ - /')
-        self.name = parts.path[1:].encode('ascii')
+        target = (parts.path or '/') + ('?' + parts.query if '?' in url else '')
+        if len(target) > 2048 or not TARGET.fullmatch(target):
+            raise BadUrl(url, 'its path and query are at most 2,048 bytes, each of them allowed there or percent-encoded')
+        self.target = target.encode('ascii')
+
+
+def _is_literal(netloc: str) -> bool:
+    """Whether it is an IPv6 address in brackets, with a port or none."""
+    found = re.fullmatch(r'\[([0-9A-Fa-f:.]+)\](:[0-9]*)?', netloc, re.ASCII)
+    with contextlib.suppress(ValueError):
+        return found is not None and bool(ipaddress.IPv6Address(found[1]))
+    return False
 
 
 def _connected(limit: Limit, host: str, port: int) -> socket.socket:

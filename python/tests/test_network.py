@@ -50,6 +50,25 @@ def as_forked(do):
     return child
 
 
+class Fields(unittest.TestCase):
+    """Each request has the fields of its caller, and the path with the query of its URL."""
+
+    def test_requests(self):
+        requests = []
+
+        def answer(request, _):
+            requests.append(request)
+            return served(request, TEXT)
+
+        fields = {'Authorization': 'Bearer 0f', 'User-Agent': 'tests'}
+        with Made(answer) as server, delgunsai.open(server.url('year=2020/a%20b.tif?v=1'), headers=fields) as file:
+            self.assertTrue(right(file, 0, 0))
+        self.assertTrue(requests)
+        for request in requests:
+            self.assertTrue(request.startswith(b'GET /year=2020/a%20b.tif?v=1 HTTP/1.1\r\n'), request)
+            self.assertIn(b'\r\nAuthorization: Bearer 0f\r\nUser-Agent: tests\r\n', request)
+
+
 class Forked(unittest.TestCase):
     """A process that was forked reads over a connection of its own, and its parent goes on with the old one."""
 

@@ -109,7 +109,7 @@ put_goes begins t before c text idle some asks = λ start allowed h is.
     let s = after_ask text t.status in
     let left : s.left ≡ None = turned_left (turn_of text t.status) text t.status u.1 in (
       next h (Asked text) h.rounds h.last text,
-      record { more = Asked text ∷ []; events = refl; taken = inl refl; made = refl },
+      record { more = Asked text ∷ []; events = refl; taken = inl refl; early = tt; made = refl },
       build start allowed h t before is (Asked text) h.rounds h.last text (record { status = s; asked = true; exchanges = t.exchanges - 1 }) c tt
           (ap (after_ask text) is.status) is.rounds (
             c,
@@ -135,7 +135,7 @@ turn_goes rounds r t c d idle is_round same = λ start allowed h is.
     let u = under_false start allowed h t c is idle in
     let facts = same h.rounds in (
       record { events = h.events; rounds = r ∷ h.rounds; last = d; request = h.request },
-      record { more = []; events = sym (append-nil h.events); taken = inl refl; made = facts.1 },
+      record { more = []; events = sym (append-nil h.events); taken = inl refl; early = tt; made = facts.1 },
       record {
         can = is.can;
         status = is.status;
@@ -179,7 +179,7 @@ finished_goes : AnswersAreInOrder → (t : Talk) (c d : ClientState) (what : Del
     → t.status.left ≡ Some 0 → Concludes [] what c d
     → Goes (MakesOne what) [] t c (record t { status = after_finish t.status; asked = false }) d
 finished_goes order t c d what busy opens whole takes =
-    ends_goes (MakesOne what) [] t c d (after_finish t.status) Finished busy (opens, whole) (inl refl) (λ p same. ap after_finish same)
+    ends_goes (MakesOne what) [] t c d (after_finish t.status) Finished busy (opens, whole) (inl refl) tt (λ p same. ap after_finish same)
     (finish_left t.status) (λ h can same u.
     let text = (past_of h).front ++ [] in
     let made : Exchange = record { request = h.request; text = text; whole = true; what = what } in
@@ -198,7 +198,7 @@ pub finish_goes : AnswersAreInOrder → (t : Talk) (c d : ClientState) (u : Talk
 finish_goes order t c d u what busy opens takes gone = elim gone [
   | inl went ↦ subst (λ (x : Talk). Goes (MakesOne what) [] t c x d) (sym went.1) (finished_goes order t c d what busy opens went.0 takes)
   | inr ended ↦ subst (λ (x : Talk). Goes (MakesOne what) [] t c x d) (sym ended)
-      (made_goes [] [] t c d (over []) Ended what busy tt (inl refl) (λ p same. refl) refl takes)
+      (made_goes [] [] t c d (over []) Ended what busy tt (inl refl) tt (λ p same. refl) refl takes)
 ]
 
 -- ---- a connection that is lost
@@ -212,14 +212,14 @@ gone_left s = elim (cases_Bool (is_again s)) [
 pub lost_goes : (text : List ℕ) (t : Talk) (c d : ClientState) (what : Delivered) → t.asked ≡ true → Concludes text what c d
     → Goes (MakesOne what) [] t c (record t { status = after_gone t.status; asked = false }) d
 lost_goes text t c d what busy takes =
-    made_goes [] text t c d (after_gone t.status) Gone what busy tt (inl refl) (λ p same. ap after_gone same) (gone_left t.status) takes
+    made_goes [] text t c d (after_gone t.status) Gone what busy tt (inl refl) tt (λ p same. ap after_gone same) (gone_left t.status) takes
 
 pub ended_goes : (t : Talk) (c d : ClientState) (what : Delivered) → t.asked ≡ true → Concludes [] what c d
     → Goes (MakesOne what) [] t c (given_up t) d
-ended_goes t c d what busy takes = made_goes [] [] t c d (over []) Ended what busy tt (inl refl) (λ p same. refl) refl takes
+ended_goes t c d what busy takes = made_goes [] [] t c d (over []) Ended what busy tt (inl refl) tt (λ p same. refl) refl takes
 
 pub stopped_goes : (text : List ℕ) (t : Talk) (c d : ClientState) → t.asked ≡ true → Halts text c d → Goes Fails [] t c (given_up t) d
-stopped_goes text t c d busy halts = halted_goes [] text t c d (over []) Ended busy tt (inl refl) (λ p same. refl) refl halts
+stopped_goes text t c d busy halts = halted_goes [] text t c d (over []) Ended busy tt (inl refl) tt (λ p same. refl) refl halts
 
 -- ---- parts
 
@@ -252,7 +252,7 @@ fed_goes order Body bytes step t c s u d busy opens takes own fed =
 fed_goes order Refused bytes step t c s u d busy opens takes own fed =
     subst (λ (x : Step). Goes (rounds_of x) bytes t c u d) (sym fed.1)
     (subst (λ (x : Talk). Goes (MakesOne fed.0.delivered) bytes t c x d) (sym fed.2)
-    (made_goes bytes s.head t c d s (Came Refused bytes s) fed.0.delivered busy (opens, takes, own) (inl (append-nil bytes)) (λ p same. refl)
+    (made_goes bytes s.head t c d s (Came Refused bytes s) fed.0.delivered busy (opens, takes, own) (inl (append-nil bytes)) tt (λ p same. refl)
     (rw takes.1.1 refl) fed.3))
 fed_goes order Stray bytes step t c s u d busy opens takes own fed = λ start allowed h is.
     let v = under_true start allowed h t c is busy in

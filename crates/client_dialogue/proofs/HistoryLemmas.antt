@@ -19,7 +19,7 @@ use Rattle.cog_client.specs.FedClient.{AnswersBeginAnywhere, Fed}
 use Rattle.cog_client.specs.Keeps.{DeliversKeeping, RequestsKeeping, StopsAsking, StopsDelivery}
 use Rattle.client_dialogue.specs.History.{AreOwn, AreRounds, Exchange, History, IsHistory, IsPlaced, IsRound, IsSomewhere, IsUnder, Round, Talk, begun, connections_of, fed_of, past_of}
 use Rattle.client_dialogue.specs.History.Round.{LetGo, Made, Rested, Stopped, Unasked}
-use Rattle.client_dialogue.specs.Goes.{AreTaken, BeginsAnew, Continues, Fails, Goes, MakesNone, MakesOne, Stays, came_by}
+use Rattle.client_dialogue.specs.Goes.{AreEarlyFor, AreTaken, BeginsAnew, Continues, Fails, Goes, IsEarlyFor, MakesNone, MakesOne, Stays, came_by}
 use Rattle.client_dialogue.specs.Inside.{Concludes, Feeds, Halts, HasGoneOn, IsConcluded, IsFedBy, IsHaltedBy, given_up}
 use Rattle.client_dialogue.specs.declared.step.Step.{Step}
 use Rattle.client_dialogue.specs.declared.step.Step.TheVariants.{Exchanged as AnExchange, More}
@@ -46,6 +46,17 @@ came-append (Wrote count ∷ xs) ys = came-append xs ys
 came-append (Finished ∷ xs) ys = came-append xs ys
 came-append (Gone ∷ xs) ys = came-append xs ys
 came-append (Ended ∷ xs) ys = came-append xs ys
+
+early-append : (c : ClientState) (xs ys : List Event) → AreEarlyFor c xs → AreEarlyFor c ys → AreEarlyFor c (xs ++ ys)
+early-append c [] ys h k = k
+early-append c (SentEarly text ∷ xs) ys h k = (h.0, early-append c xs ys h.1 k)
+early-append c (Came part bytes after ∷ xs) ys h k = early-append c xs ys h k
+early-append c (Asked text ∷ xs) ys h k = early-append c xs ys h k
+early-append c (Opened ∷ xs) ys h k = early-append c xs ys h k
+early-append c (Wrote count ∷ xs) ys h k = early-append c xs ys h k
+early-append c (Finished ∷ xs) ys h k = early-append c xs ys h k
+early-append c (Gone ∷ xs) ys h k = early-append c xs ys h k
+early-append c (Ended ∷ xs) ys h k = early-append c xs ys h k
 
 -- ---- places stay
 
@@ -164,7 +175,7 @@ few_at start allowed h t c b is same =
 
 pub stays_goes : (t : Talk) (c : ClientState) → Goes Stays [] t c t c
 stays_goes t c = λ start allowed h is.
-    (h, record { more = []; events = sym (append-nil h.events); taken = inl refl; made = refl }, is)
+    (h, record { more = []; events = sym (append-nil h.events); taken = inl refl; early = tt; made = refl }, is)
 
 pub dropped_goes : (rounds : List Round → List Round → Type 0) (bytes : List ℕ) (t : Talk) (c : ClientState) (u : Talk) (d : ClientState)
     → u.status.is_open ≡ false → Goes rounds [] t c u d → Goes rounds bytes t c u d
@@ -175,6 +186,7 @@ dropped_goes rounds bytes t c u d shut goes = λ start allowed h is.
         more = k.1.more;
         events = k.1.events;
         taken = inr (elim k.1.taken [ inl none ↦ none | inr none ↦ none.0 ], shut);
+        early = k.1.early;
         made = k.1.made;
       },
       k.2,
@@ -183,7 +195,7 @@ dropped_goes rounds bytes t c u d shut goes = λ start allowed h is.
 pub none_goes : (bytes : List ℕ) (t : Talk) (c : ClientState) (u : Talk) (d : ClientState) → Goes Stays bytes t c u d → Goes MakesNone bytes t c u d
 none_goes bytes t c u d goes = λ start allowed h is.
     let k = goes start allowed h is in
-    (k.0, record { more = k.1.more; events = k.1.events; taken = k.1.taken; made = inl k.1.made }, k.2)
+    (k.0, record { more = k.1.more; events = k.1.events; taken = k.1.taken; early = k.1.early; made = inl k.1.made }, k.2)
 
 taken_then : (bytes : List ℕ) (xs ys : List Event) (s : Status) → came_by xs ≡ [] → AreTaken bytes ys s → AreTaken bytes (xs ++ ys) s
 taken_then bytes xs ys s none h =
@@ -196,9 +208,9 @@ taken_before bytes xs ys s none h =
     came-append xs ys ∙ ap (λ (t : List ℕ). came_by xs ++ t) none ∙ append-nil (came_by xs) in
     elim h [ inl all ↦ inl (same ∙ all) | inr gone ↦ inr (same ∙ gone.0, refl) ]
 
-pub then_goes : (rounds : List Round → List Round → Type 0) (bytes : List ℕ) (t : Talk) (c : ClientState) (u : Talk) (d : ClientState) (v : Talk) (e : ClientState)
-    → Goes Stays [] t c u d → Goes rounds bytes u d v e → Goes rounds bytes t c v e
-then_goes rounds bytes t c u d v e first second = λ start allowed h is.
+pub then_goes : (rounds : List Round → List Round → Type 0) (bytes : List ℕ) (t : Talk) (c : ClientState) (u : Talk) (d : ClientState) (v : Talk)
+    → Goes Stays [] t c u d → Goes rounds bytes u d v d → Goes rounds bytes t c v d
+then_goes rounds bytes t c u d v first second = λ start allowed h is.
     let k = first start allowed h is in
     let l = second start allowed k.0 k.2 in (
       l.0,
@@ -206,6 +218,7 @@ then_goes rounds bytes t c u d v e first second = λ start allowed h is.
         more = k.1.more ++ l.1.more;
         events = l.1.events ∙ ap (λ (es : List Event). es ++ l.1.more) k.1.events ∙ append_assoc h.events k.1.more l.1.more;
         taken = taken_then bytes k.1.more l.1.more v.status (elim k.1.taken [ inl none ↦ none | inr none ↦ none.0 ]) l.1.taken;
+        early = early-append d k.1.more l.1.more k.1.early l.1.early;
         made = subst (λ (rs : List Round). rounds rs l.0.rounds) k.1.made l.1.made;
       },
       l.2,
@@ -213,14 +226,14 @@ then_goes rounds bytes t c u d v e first second = λ start allowed h is.
 
 -- one event alone, by which no round ends
 moves_goes : (bytes : List ℕ) (t : Talk) (c d : ClientState) (s : Status) (e : Event) → t.asked ≡ true → CanHappen e t.status
-    → AreTaken bytes (e ∷ []) s
+    → AreTaken bytes (e ∷ []) s → AreEarlyFor d (e ∷ [])
     → ((p : Past) → p.status ≡ t.status → (happened e p).status ≡ s)
     → ((h : History) → CanRun h.events none_yet → (past_of h).status ≡ t.status → IsUnder true h.last h.request (past_of h).front t.status c
     → IsUnder true h.last h.request (happened e (past_of h)).front s d)
     → Goes Stays bytes t c (record t { status = s }) d
-moves_goes bytes t c d s e busy can taken status under = λ start allowed h is. (
+moves_goes bytes t c d s e busy can taken early status under = λ start allowed h is. (
   next h e h.rounds h.last h.request,
-  record { more = e ∷ []; events = refl; taken = taken; made = refl },
+  record { more = e ∷ []; events = refl; taken = taken; early = early; made = refl },
   build start allowed h t c is e h.rounds h.last h.request (record t { status = s }) d can (status (past_of h) is.status) is.rounds
       (subst (λ (b : Bool). IsUnder b h.last h.request (happened e (past_of h)).front s d) (sym busy)
       (under h is.can is.status (under_true start allowed h t c is busy)))
@@ -243,19 +256,19 @@ same_under l l2 last request front front2 s s2 c left left2 fed first u = (
 pub wrote_goes : (t : Talk) (c : ClientState) (n : ℕ) → t.asked ≡ true → t.status.is_open ≡ true → n ≤ length t.status.waits
     → Goes Stays [] t c (record t { status = after_write n t.status }) c
 wrote_goes t c n busy opens few =
-    moves_goes [] t c c (after_write n t.status) (Wrote n) busy (opens, few) (inl refl) (λ p same. ap (after_write n) same)
+    moves_goes [] t c c (after_write n t.status) (Wrote n) busy (opens, few) (inl refl) tt (λ p same. ap (after_write n) same)
     (λ h is same u. u)
 
-pub early_goes : (t : Talk) (c : ClientState) (text : List ℕ) → t.asked ≡ true → t.status.is_open ≡ true
+pub early_goes : (t : Talk) (c : ClientState) (text : List ℕ) → t.asked ≡ true → t.status.is_open ≡ true → IsEarlyFor c text
     → Goes Stays [] t c (record t { status = sends text t.status }) c
-early_goes t c text busy opens =
-    moves_goes [] t c c (sends text t.status) (SentEarly text) busy opens (inl refl) (λ p same. ap (sends text) same)
+early_goes t c text busy opens early =
+    moves_goes [] t c c (sends text t.status) (SentEarly text) busy opens (inl refl) (early, tt) (λ p same. ap (sends text) same)
     (λ h is same u. (u.0, u.1, u.2, (u.3.0 ++ text ∷ [], ap (λ (ts : List (List ℕ)). ts ++ text ∷ []) u.3.1)))
 
 pub opened_goes : (t : Talk) (c : ClientState) → t.asked ≡ true → t.status.is_open ≡ false → t.status.left ≡ None
     → Goes Stays [] t c (record t { status = after_open t.status }) c
 opened_goes t c busy shut none =
-    moves_goes [] t c c (after_open t.status) Opened busy shut (inl refl) (λ p same. ap after_open same)
+    moves_goes [] t c c (after_open t.status) Opened busy shut (inl refl) tt (λ p same. ap after_open same)
     (λ h is same u. same_under None None h.last h.request (past_of h).front [] t.status (after_open t.status) c none refl refl
     (λ early out. ([], ap (λ (ts : List (List ℕ)). take 1 ts) out)) u)
 
@@ -277,7 +290,7 @@ again_left s e =
 pub again_goes : (t : Talk) (c : ClientState) → t.asked ≡ true → is_again t.status ≡ true
     → Goes Stays [] t c (record t { status = after_gone t.status }) c
 again_goes t c busy again =
-    moves_goes [] t c c (after_gone t.status) Gone busy tt (inl refl) (λ p same. ap after_gone same)
+    moves_goes [] t c c (after_gone t.status) Gone busy tt (inl refl) tt (λ p same. ap after_gone same)
     (λ h is same u. same_under None None h.last h.request (past_of h).front (past_of h).front t.status (after_gone t.status) c
     (again_left t.status again) (rw again refl) refl
     (λ early out. ([], rw again (ap (λ (ts : List (List ℕ)). take 1 ts) out))) u)
@@ -297,15 +310,15 @@ pub quiet_goes : (part : Part) (bytes : List ℕ) (t : Talk) (c : ClientState) (
     → IsQuiet part
     → Goes Stays bytes t c (record t { status = s }) c
 quiet_goes Head bytes t c s busy opens takes own which =
-    moves_goes bytes t c c s (Came Head bytes s) busy (opens, takes, own) (inl (append-nil bytes)) (λ p same. refl)
+    moves_goes bytes t c c s (Came Head bytes s) busy (opens, takes, own) (inl (append-nil bytes)) tt (λ p same. refl)
     (λ h is same u. same_under None None h.last h.request (past_of h).front _ t.status s c takes.0
     (rw takes.1.1 takes.0) refl (λ early out. (early, rw takes.1.1 out)) u)
 quiet_goes Interim bytes t c s busy opens takes own which =
-    moves_goes bytes t c c s (Came Interim bytes s) busy (opens, takes, own) (inl (append-nil bytes)) (λ p same. refl)
+    moves_goes bytes t c c s (Came Interim bytes s) busy (opens, takes, own) (inl (append-nil bytes)) tt (λ p same. refl)
     (λ h is same u. same_under None None h.last h.request (past_of h).front _ t.status s c takes.0
     (rw takes.1.5 takes.0) refl (λ early out. (early, rw takes.1.5 out)) u)
 quiet_goes Again bytes t c s busy opens takes own which =
-    moves_goes bytes t c c s (Came Again bytes s) busy (opens, takes, own) (inl (append-nil bytes)) (λ p same. refl)
+    moves_goes bytes t c c s (Came Again bytes s) busy (opens, takes, own) (inl (append-nil bytes)) tt (λ p same. refl)
     (λ h is same u. same_under None None h.last h.request (past_of h).front _ t.status s c takes.0
     (rw takes.1.2 refl) refl (λ early out. ([], rw takes.1.2 (ap (λ (ts : List (List ℕ)). take 1 ts) out))) u)
 quiet_goes Stray bytes t c s busy opens takes own which = absurd which
@@ -332,7 +345,7 @@ pub begun_goes : AnswersAreInOrder → (bytes : List ℕ) (t : Talk) (c d : Clie
 begun_goes order bytes t c d s busy opens takes own feeds =
     let frame = takes.1.0 in
     let head : s.head ≡ t.status.head ++ bytes = rw takes.1.4 refl in
-    moves_goes bytes t c d s (Came Begun bytes s) busy (opens, takes, own) (inl (append-nil bytes)) (λ p same. refl)
+    moves_goes bytes t c d s (Came Begun bytes s) busy (opens, takes, own) (inl (append-nil bytes)) tt (λ p same. refl)
     (λ h can same u.
     let front = front_is_head order h t.status can same opens takes.0 in
     let whole : (past_of h).front ++ bytes ≡ s.head = ap (λ (xs : List ℕ). xs ++ bytes) front ∙ sym head in
@@ -349,7 +362,7 @@ pub body_goes : (bytes : List ℕ) (t : Talk) (c d : ClientState) (s : Status) �
     → Takes Body bytes t.status s → (¬ (Body ≡ Stray) → 0 < length t.status.out) → Feeds bytes c d
     → Goes Stays bytes t c (record t { status = s }) d
 body_goes bytes t c d s busy opens takes own feeds =
-    moves_goes bytes t c d s (Came Body bytes s) busy (opens, takes, own) (inl (append-nil bytes)) (λ p same. refl)
+    moves_goes bytes t c d s (Came Body bytes s) busy (opens, takes, own) (inl (append-nil bytes)) tt (λ p same. refl)
     (λ h can same u.
     let some : Fed u.0 (past_of h).front c = subst (λ (o : Option ℕ). Fed u.0 (fed_of o (past_of h).front) c) takes.1 u.2 in (
       u.0,
@@ -362,17 +375,17 @@ body_goes bytes t c d s busy opens takes own feeds =
 
 -- a round ends by one event, after which no body is under way
 pub ends_goes : (rounds : List Round → List Round → Type 0) (bytes : List ℕ) (t : Talk) (c d : ClientState) (s : Status) (e : Event) → t.asked ≡ true
-    → CanHappen e t.status → AreTaken bytes (e ∷ []) s → ((p : Past) → p.status ≡ t.status → (happened e p).status ≡ s) → s.left ≡ None
+    → CanHappen e t.status → AreTaken bytes (e ∷ []) s → AreEarlyFor d (e ∷ []) → ((p : Past) → p.status ≡ t.status → (happened e p).status ≡ s) → s.left ≡ None
     → ((h : History) → CanRun h.events none_yet → (past_of h).status ≡ t.status → IsUnder true h.last h.request (past_of h).front t.status c
     → (r : Round) × IsRound r h.last d × (begun (r ∷ h.rounds) ≡ begun h.rounds + 1) × rounds h.rounds (r ∷ h.rounds)
     × (AreOwn h.rounds (connections_of (happened e (past_of h))) → AreOwn (r ∷ h.rounds) (connections_of (happened e (past_of h)))))
     → Goes rounds bytes t c (record t { status = s; asked = false }) d
-ends_goes rounds bytes t c d s e busy can taken status left round = λ start allowed h is.
+ends_goes rounds bytes t c d s e busy can taken early status left round = λ start allowed h is.
     let under = under_true start allowed h t c is busy in
     let r = round h is.can is.status under in
     let few = few_at start allowed h t c true is busy in (
       next h e (r.0 ∷ h.rounds) d h.request,
-      record { more = e ∷ []; events = refl; taken = taken; made = r.3 },
+      record { more = e ∷ []; events = refl; taken = taken; early = early; made = r.3 },
       build start allowed h t c is e (r.0 ∷ h.rounds) d h.request (record t { status = s; asked = false }) d can (status (past_of h) is.status)
           (h.last, is.rounds, r.1) (refl, left) (r.4 (own_next e (past_of h) h.rounds is.own))
           (omega (arith, few, r.2)),
@@ -380,10 +393,10 @@ ends_goes rounds bytes t c d s e busy can taken status left round = λ start all
 
 -- an exchange whose answer isn't whole, or isn't used
 pub made_goes : (bytes : List ℕ) (text : List ℕ) (t : Talk) (c d : ClientState) (s : Status) (e : Event) (what : Delivered) → t.asked ≡ true → CanHappen e t.status
-    → AreTaken bytes (e ∷ []) s → ((p : Past) → p.status ≡ t.status → (happened e p).status ≡ s) → s.left ≡ None → Concludes text what c d
+    → AreTaken bytes (e ∷ []) s → AreEarlyFor d (e ∷ []) → ((p : Past) → p.status ≡ t.status → (happened e p).status ≡ s) → s.left ≡ None → Concludes text what c d
     → Goes (MakesOne what) bytes t c (record t { status = s; asked = false }) d
-made_goes bytes text t c d s e what busy can taken status left takes =
-    ends_goes (MakesOne what) bytes t c d s e busy can taken status left (λ h hcan same u.
+made_goes bytes text t c d s e what busy can taken early status left takes =
+    ends_goes (MakesOne what) bytes t c d s e busy can taken early status left (λ h hcan same u.
     let made : Exchange = record { request = h.request; text = fed_of t.status.left (past_of h).front ++ text; whole = false; what = what } in (
       Made made,
       (u.0, u.1, takes u.0 (fed_of t.status.left (past_of h).front) u.2),
@@ -394,10 +407,10 @@ made_goes bytes text t c d s e what busy can taken status left takes =
 
 -- memory was wanting for it
 pub halted_goes : (bytes : List ℕ) (text : List ℕ) (t : Talk) (c d : ClientState) (s : Status) (e : Event) → t.asked ≡ true → CanHappen e t.status
-    → AreTaken bytes (e ∷ []) s → ((p : Past) → p.status ≡ t.status → (happened e p).status ≡ s) → s.left ≡ None → Halts text c d
+    → AreTaken bytes (e ∷ []) s → AreEarlyFor d (e ∷ []) → ((p : Past) → p.status ≡ t.status → (happened e p).status ≡ s) → s.left ≡ None → Halts text c d
     → Goes Fails bytes t c (record t { status = s; asked = false }) d
-halted_goes bytes text t c d s e busy can taken status left halts =
-    ends_goes Fails bytes t c d s e busy can taken status left (λ h hcan same u.
+halted_goes bytes text t c d s e busy can taken early status left halts =
+    ends_goes Fails bytes t c d s e busy can taken early status left (λ h hcan same u.
     let came = fed_of t.status.left (past_of h).front ++ text in (
       Stopped h.request came,
       (u.0, u.1, halts u.0 (fed_of t.status.left (past_of h).front) u.2),
@@ -409,7 +422,7 @@ halted_goes bytes text t c d s e busy can taken status left halts =
 -- the rest of the answer is let go
 pub let_go_goes : (t : Talk) (c : ClientState) → t.asked ≡ true → Goes Fails [] t c (given_up t) c
 let_go_goes t c busy =
-    ends_goes Fails [] t c c (over []) Ended busy tt (inl refl) (λ p same. refl) refl (λ h hcan same u.
+    ends_goes Fails [] t c c (over []) Ended busy tt (inl refl) tt (λ p same. refl) refl (λ h hcan same u.
     let came = fed_of t.status.left (past_of h).front in
     (LetGo h.request came, (u.0, u.1, u.2), refl, inr (inr (h.request, came, inr refl)), (λ own. own)))
 
@@ -427,6 +440,7 @@ then_let_go bytes t c u d busy goes = λ start allowed h is.
           | inl none ↦ taken_before bytes k.1.more l.1.more u.status none k.1.taken
           | inr none ↦ taken_before bytes k.1.more l.1.more u.status none.0 k.1.taken
         ];
+        early = early-append d k.1.more l.1.more k.1.early l.1.early;
         made = subst (λ (rs : List Round). Fails rs l.0.rounds) k.1.made l.1.made;
       },
       l.2,

@@ -3,3 +3,4 @@ mod ExchangeLemmas
 mod Results
 mod UsefulLemmas
 mod TruthLemmas
+mod EarlyLemmas

@@ -1,5 +1,6 @@
 -- What a call of a dialogue does: whatever happened before, something more happened after it.
 use Rattle.std.specs.Prelude.{◌≡◌, ⊤, ◌⊎◌, ◌<◌, ℕ, Bool, true, false, List, [], ◌∷◌, ◌++◌, length, Option, Some, None}
+use Rattle.extents.specs.declared.span.Span.{Span}
 use Rattle.client_connection.specs.Run.{Event}
 use Rattle.client_connection.specs.Run.Event.{Asked, SentEarly, Opened, Wrote, Came, Finished, Gone, Ended}
 use Rattle.client_connection.specs.Status.{Status}
@@ -7,6 +8,7 @@ use Rattle.cog_client.specs.declared.delivered.Delivered.{Delivered}
 use Rattle.cog_client.specs.declared.delivered.Delivered.TheVariants.{Ignored, Restarted, Took}
 use Rattle.cog_client.specs.Calls.{IsIdle}
 use Rattle.cog_client.specs.Client.{ClientState}
+use Rattle.cog_client.specs.Early.{IsEarly, IsRequestFor}
 use Rattle.client_dialogue.specs.History.{Exchange, History, IsHistory, Round, Talk}
 use Rattle.client_dialogue.specs.History.Round.{LetGo, Made, Rested, Stopped, Unasked}
 use Rattle.client_dialogue.specs.declared.step.Exchanged.{Exchanged}
@@ -18,6 +20,16 @@ abbrev pub came_by : List Event → List ℕ
 came_by [] = []
 came_by (Came part bytes after ∷ es) = bytes ++ came_by es
 came_by (e ∷ es) = came_by es
+
+-- one of the requests that the client may make early
+abbrev pub IsEarlyFor : ClientState → List ℕ → Type 0
+IsEarlyFor c text = (span : Span) × IsEarly c span × IsRequestFor c span text
+
+-- Each text that was sent early by the events is such a request.
+abbrev pub AreEarlyFor : ClientState → List Event → Type 0
+AreEarlyFor c [] = ⊤
+AreEarlyFor c (SentEarly text ∷ es) = IsEarlyFor c text × AreEarlyFor c es
+AreEarlyFor c (e ∷ es) = AreEarlyFor c es
 
 -- These bytes came and were taken; or they were dropped with their connection.
 abbrev pub AreTaken : List ℕ → List Event → Status → Type 0
@@ -40,17 +52,18 @@ abbrev pub Fails : List Round → List Round → Type 0
 Fails before after = (after ≡ before) ⊎ (after ≡ Unasked ∷ before)
     ⊎ ((request text : List ℕ) × ((after ≡ Stopped request text ∷ before) ⊎ (after ≡ LetGo request text ∷ before)))
 
--- a history goes on by these bytes
-pub record Continues (rounds : List Round → List Round → Type 0) (bytes : List ℕ) (h k : History) (s : Status) : Type 0 where
+-- A history goes on by these bytes, and the client is left so. What was sent early are requests of this client.
+pub record Continues (rounds : List Round → List Round → Type 0) (bytes : List ℕ) (h k : History) (s : Status) (c : ClientState) : Type 0 where
   pub more : List Event
   pub events : k.events ≡ h.events ++ more
   pub taken : AreTaken bytes more s
+  pub early : AreEarlyFor c more
   pub made : rounds h.rounds k.rounds
 
 -- Whatever happened before, it goes on so.
 abbrev pub Goes : (List Round → List Round → Type 0) → List ℕ → Talk → ClientState → Talk → ClientState → Type 0
 Goes rounds bytes t c u d = (start : ClientState) (allowed : ℕ) (h : History) → IsHistory start allowed h t c
-    → (k : History) × Continues rounds bytes h k u.status × IsHistory start allowed k u d
+    → (k : History) × Continues rounds bytes h k u.status d × IsHistory start allowed k u d
 
 -- the rounds that end with a step
 abbrev pub rounds_of : Step → List Round → List Round → Type 0

@@ -14,7 +14,7 @@ use Rattle.extents.specs.Extent.{Extent}
 use Rattle.http_range.specs.declared.range.Resolved.TheVariants.{Part, Whole}
 use Rattle.http_range.specs.declared.reading.Why.{Why}
 use Rattle.http_range.specs.declared.reading.Why.TheVariants.{Cut}
-use Rattle.http_range.specs.Ask.{request_by}
+use Rattle.http_range.specs.Ask.{request_with}
 use Rattle.http_range.specs.Book.{IsPublication, Publication}
 use Rattle.http_range.specs.Honest.{IsPieceOf as IsOf}
 use Rattle.http_range.specs.Laws.{RequestsAreAnswered, FrontsAreRead, PublishedIsNamed}
@@ -35,7 +35,7 @@ use Rattle.cog_client.specs.declared.delivered.Ignored.TheVariants.{NotAsked, Ot
 use Rattle.cog_client.specs.declared.delivered.Delivered.TheVariants.{Took, Restarted}
 use Rattle.cog_client.specs.Case.{Revision, case_of, is_beside}
 use Rattle.cog_client.specs.Take.{Holding, IsIgnored, asked_or_first, brought_by, revision_of_piece, stored_of, take as taken, take_by}
-use Rattle.cog_client.specs.Client.{ClientState, Knows, asked_of, blocks_of, holding, host_of, name_of, revision_of, tag_of, to_come, closes}
+use Rattle.cog_client.specs.Client.{ClientState, Knows, asked_of, blocks_of, fields_of, holding, host_of, name_of, revision_of, tag_of, to_come, closes}
 use Rattle.cog_client.specs.Keeps.{AsksFor, DeliversKeeping, Lacks, StaysOf}
 use Rattle.cog_reader.specs.Going.{AreSame}
 use Rattle.cog_client.specs.Progress.{BringsOn, IsGiven, IsOwnAnswer, IsServed, OwnAnswersAreServed, ServedBringOn, left, left_of}
@@ -95,16 +95,16 @@ part_seen p first last false fits fit low = ap Ok (sent_is_all p)
 own_response : RequestsAreAnswered → (c : ClientState) (p : Publication) (span : Span) (text : List ℕ) → (own : IsOwnAnswer c p span text)
     → own.response ≡ ending (closes c) (response_to_client (Some p) span.first span.last (tag_of c))
 own_response answered c p span text own =
-    let message = request_by (closes c) (host_of c) (name_of c) span.first span.last (tag_of c) in
+    let message = request_with (closes c) (host_of c) (name_of c) (fields_of c) span.first span.last (tag_of c) in
     let P : List ℕ → Type 0 = λ m. IsAnswer own.catalogue m own.response in
-    (answered own.catalogue (closes c) (host_of c) (name_of c) [] span.first span.last (tag_of c) own.response own.can span.ascending).0 (subst P (sym (append-nil message)) own.answers)
+    (answered own.catalogue (closes c) (host_of c) (name_of c) (fields_of c) [] span.first span.last (tag_of c) own.response own.can span.ascending).0 (subst P (sym (append-nil message)) own.answers)
     ∙ ap (λ o. ending (closes c) (response_to_client o span.first span.last (tag_of c))) own.has
 
 pub own_reading : RequestsAreAnswered → FrontsAreRead → (c : ClientState) (p : Publication) (span : Span) (text : List ℕ) → (own : IsOwnAnswer c p span text)
     → (r : Result SeenPiece Why) → ReadsAnswer text r → (is_current (tag_of c) p.tag ≡ true → span.first < length p.file) → r ≡ Ok (piece_for p span (tag_of c))
 own_reading answered fronts c p span text own r reads begins =
     let tag = tag_of c in
-    let message = request_by (closes c) (host_of c) (name_of c) span.first span.last tag in
+    let message = request_with (closes c) (host_of c) (name_of c) (fields_of c) span.first span.last tag in
     let response = own_response answered c p span text own in
     let s = own.response in
     let up = span.ascending in

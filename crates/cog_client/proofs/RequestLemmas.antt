@@ -1,12 +1,13 @@
 -- RequestOptions: what is asked for is no part of what is known.
 use Rattle.std.proofs.Common.{◌≡◌, ℕ, List, Option, Some, None, true, false, refl, sym, ap, ◌∙◌, subst, arith, inl, inr}
-use Rattle.std.specs.Prelude.{IfSome, IsSome, is_some}
+use Rattle.std.specs.Prelude.{IfSome, IsSome, IsTrue, is_some}
 use Rattle.std.proofs.lemmas.Option.{none-some}
 use Rattle.std.proofs.lemmas.Bool.{false≢true}
 use Rattle.tiff_dir.specs.declared.query.Query.{Query}
 use Rattle.extents.specs.declared.span.Span.{Span}
 use Rattle.extents.specs.Extent.{Extent}
 use Rattle.http_range.specs.Ask.{CanAsk}
+use Rattle.http_range.specs.Names.{is_host, is_name}
 use Rattle.std.specs.Option.{option_map}
 use Rattle.extents.specs.Block.{blocks}
 use Rattle.range_cache.specs.Cache.{Blocks}
@@ -15,8 +16,8 @@ use Rattle.cog_client.specs.declared.report.Report.{Report}
 use Rattle.cog_client.specs.declared.revision_reader.RevisionReader.{RevisionReader}
 use Rattle.cog_client.specs.Case.{Revision}
 use Rattle.cog_client.specs.AnswerPhase.{Feed, TakesNoBody, nothing_fed}
-use Rattle.cog_client.specs.Client.{ClientState, IsAlone, IsClient, IsFew, IsStanding, Knows, ahead_of, asked_of, blocks_of, feed_of, host_of, how_of, name_of, query_of, report_of, revision_of, tag_of, to_come, unread}
-use Rattle.cog_client.specs.Calls.{IsAsked, IsIdle, request_for, unless_reported}
+use Rattle.cog_client.specs.Client.{ClientState, IsAlone, IsClient, IsFew, IsPlain, IsStanding, Knows, ahead_of, asked_of, blocks_of, feed_of, fields_of, host_of, how_of, name_of, query_of, report_of, revision_of, tag_of, to_come, unread}
+use Rattle.cog_client.specs.Calls.{IsAsked, IsIdle, SameClient, request_for, unless_reported}
 use Rattle.cog_client.specs.Keeps.{AsksFor, AsksLike, GoesOnKeeping, ComesFirst, Lacks, RequestsKeeping}
 use Rattle.cog_reader.specs.Going.{AreTouched, IsMissing, IsMissingWithRoom}
 use Rattle.cog_client.proofs.GoingLemmas.{end_refl, same_refl}
@@ -72,12 +73,23 @@ none_asked (Some r) a b is none = is
 same_text : (old new : ClientState) (span : Span) → how_of new ≡ how_of old → host_of new ≡ host_of old → name_of new ≡ name_of old → revision_of new ≡ revision_of old → request_for new (Some span) ≡ request_for old (Some span)
 same_text old new span how host name revision = cc
 
-same_lawful : (old new : ClientState) (span : Span) → host_of new ≡ host_of old → name_of new ≡ name_of old → revision_of new ≡ revision_of old
-    → CanAsk (host_of new) (name_of new) span.first span.last (tag_of new) → CanAsk (host_of old) (name_of old) span.first span.last (tag_of old)
-same_lawful old new span host name revision can =
+same_lawful : (old new : ClientState) (span : Span) → how_of new ≡ how_of old → host_of new ≡ host_of old → name_of new ≡ name_of old → revision_of new ≡ revision_of old
+    → CanAsk (host_of new) (name_of new) (fields_of new) span.first span.last (tag_of new)
+    → CanAsk (host_of old) (name_of old) (fields_of old) span.first span.last (tag_of old)
+same_lawful old new span how host name revision can =
     let tag : tag_of new ≡ tag_of old = ap (λ o. option_map (λ (v : Revision). v.tag) o) revision in
-    subst (λ t. CanAsk (host_of old) (name_of old) span.first span.last t) tag
-    (subst (λ n. CanAsk (host_of old) n span.first span.last (tag_of new)) name (subst (λ h. CanAsk h (name_of new) span.first span.last (tag_of new)) host can))
+    subst (λ (w : RequestOptions). CanAsk (host_of old) (name_of old) w.fields span.first span.last (tag_of old)) how
+    (subst (λ t. CanAsk (host_of old) (name_of old) (fields_of new) span.first span.last t) tag
+    (subst (λ n. CanAsk (host_of old) n (fields_of new) span.first span.last (tag_of new)) name
+    (subst (λ h. CanAsk h (name_of new) (fields_of new) span.first span.last (tag_of new)) host can)))
+
+-- a plain client stays one
+pub plain_as : (old new : ClientState) → SameClient old new → IsPlain old → IsPlain new
+plain_as old new same plain = (
+  subst (λ h. IsTrue (is_host h)) (sym same.host) plain.0,
+  subst (λ n. IsTrue (is_name n)) (sym same.name) plain.1,
+  ap (λ (w : RequestOptions). w.fields) same.how ∙ plain.2,
+)
 
 -- the range that is needed next, of what is known before
 lacks_back : (old new : ClientState) (v : Revision) (ahead : ℕ) (span : Span) → blocks_of new ≡ blocks_of old → ((f : List ℕ) → Knows f new → Knows f old) → ((f : List ℕ) → to_come new f ≡ to_come old f)
@@ -139,7 +151,7 @@ module _ (e : Feed) (how : RequestOptions) (h n : List ℕ) (q : Option Query) (
   }
 
   pub requested : (old : ClientState) (text : List ℕ) → GoesOnKeeping old mid → IsClient mid → IsClient new → is_some (query_of old) ≡ true → is_some (report_of old) ≡ false → report_of mid ≡ None
-      → feed_of mid ≡ nothing_fed → Some text ≡ request_for mid (Some span) → CanAsk (host_of mid) (name_of mid) span.first span.last (tag_of mid) → AsksFor mid (revision_of mid) (ahead_of mid) span → RequestsKeeping old (Some text) new
+      → feed_of mid ≡ nothing_fed → Some text ≡ request_for mid (Some span) → CanAsk (host_of mid) (name_of mid) (fields_of mid) span.first span.last (tag_of mid) → AsksFor mid (revision_of mid) (ahead_of mid) span → RequestsKeeping old (Some text) new
   unfolding how_of host_of name_of query_of asked_of revision_of report_of blocks_of feed_of to_come
   requested old text goes c d query quiet none dropped is can asks =
       let on = goes_trans old mid new goes (reasked e e how h n q a (Some span) b r s d) in
@@ -157,7 +169,7 @@ module _ (e : Feed) (how : RequestOptions) (h n : List ℕ) (q : Option Query) (
           report = λ some. absurd (false≢true (sym quiet ∙ some));
           feed = dropped;
         };
-        lawful = same_lawful old mid span goes.seen.same.host goes.seen.same.name goes.seen.revision can;
+        lawful = same_lawful old mid span goes.seen.same.how goes.seen.same.host goes.seen.same.name goes.seen.revision can;
         goes = on;
         asks = asking;
       }
@@ -180,7 +192,7 @@ requests_none old new goes none idle report dropped = record {
     report = report;
     feed = dropped;
   };
-  lawful = subst (λ a. IfSome a (λ s. CanAsk (host_of old) (name_of old) s.first s.last (tag_of old))) (sym none) tt;
+  lawful = subst (λ a. IfSome a (λ s. CanAsk (host_of old) (name_of old) (fields_of old) s.first s.last (tag_of old))) (sym none) tt;
   goes = goes;
   asks = subst (λ a. IfSome a (AsksFor new (revision_of new) (ahead_of new))) (sym none) tt;
 }

@@ -1,11 +1,13 @@
 -- What a caller sees of each call of a client, from one state to the next.
-use Rattle.std.specs.Prelude.{◌≡◌, ℕ, ◌⊎◌, true, if◌then◌else◌, List, [], Option, Some, None, IfSome, IsSome, is_some, Result}
+use Rattle.std.specs.Prelude.{◌≡◌, ℕ, ◌⊎◌, true, if◌then◌else◌, List, [], drop, Option, Some, None, IfSome, IsSome, is_some, Result}
 use Rattle.std.specs.Option.{option_map}
 use Rattle.tiff_dir.specs.declared.query.Query.{Query}
 use Rattle.extents.specs.declared.span.Span.{Span}
 use Rattle.extents.specs.Extent.{Extent}
 use Rattle.http_range.specs.declared.reading.Why.{Why}
-use Rattle.http_range.specs.Ask.{request_by}
+use Rattle.http_range.specs.Ask.{request_with}
+use Rattle.http_fields.specs.Text.{FieldLine}
+use Rattle.range_cache.specs.Cache.{Blocks}
 use Rattle.http_range.specs.Piece.{SeenPiece}
 use Rattle.http_range.specs.Reading.{ReadsAnswer}
 use Rattle.cog_client.specs.declared.delivered.Delivered.{Delivered}
@@ -13,7 +15,7 @@ use Rattle.cog_client.specs.declared.report.Report.{Report}
 use Rattle.cog_client.specs.Case.{Revision}
 use Rattle.cog_client.specs.AnswerPhase.{nothing_fed}
 use Rattle.cog_client.specs.Take.{IsIgnored, emptied, first_span, take}
-use Rattle.cog_client.specs.Client.{ClientState, ahead_of, asked_of, blocks_of, closes, feed_of, holding, host_of, how_of, name_of, query_of, report_of, revision_of, tag_of}
+use Rattle.cog_client.specs.Client.{ClientState, ahead_of, asked_of, blocks_of, closes, feed_of, fields_of, holding, host_of, how_of, name_of, query_of, report_of, revision_of, tag_of}
 use Rattle.cog_reader.specs.Going.{AreSame, IsMissing}
 
 -- host, name, query and how it asks stay
@@ -25,19 +27,28 @@ pub record SameClient (old new : ClientState) : Type 0 where
 
 -- ---- new, open, forget
 
--- It has nothing: no query, no revision, no block. Its requests close the connection, and it looks no block ahead.
-abbrev pub Starts : List ℕ → List ℕ → ℕ → ClientState → Type 0
-Starts host name blocks new = new ≡ record {
-  how = record { closes = true; ahead = 0 };
+-- It has no query and no revision. Its requests close the connection, and it looks no block ahead.
+abbrev pub started : List ℕ → List ℕ → List FieldLine → Blocks → ClientState
+started host name fields cache = record {
+  how = record { closes = true; ahead = 0; fields = fields };
   host = host;
   name = name;
   query = None;
   asked = None;
   source = None;
-  cache = record { entries = []; capacity = blocks };
+  cache = cache;
   report = None;
   feed = nothing_fed;
 }
+
+-- It has no block either, and its requests have no field beside their own.
+abbrev pub Starts : List ℕ → List ℕ → ℕ → ClientState → Type 0
+Starts host name blocks new = new ≡ started host name [] (record { entries = []; capacity = blocks })
+
+-- So it is by a URL, but for these fields; its name is the target without the first `/`.
+abbrev pub StartsByUrl : List ℕ → List ℕ → List FieldLine → ℕ → ClientState → Type 0
+StartsByUrl authority target fields blocks new =
+    new ≡ started authority (drop 1 target) fields (record { entries = []; capacity = blocks })
 
 -- The query is asked; revision and blocks stay, and an unfinished answer is dropped, as in each call from here on.
 abbrev pub Opens : Query → ClientState → ClientState → Type 0
@@ -71,7 +82,7 @@ IsAsked c (Some v) ahead span = (range : Extent) × IsMissing (blocks_of c) v.co
 -- the text of a client's request for what is asked for, under the condition that the file still has the revision's tag; the
 -- connection ends with the answer, or is kept open
 abbrev pub request_for : ClientState → Option Span → Option (List ℕ)
-request_for c span = option_map (λ (s : Span). request_by (closes c) (host_of c) (name_of c) s.first s.last (tag_of c)) span
+request_for c span = option_map (λ (s : Span). request_with (closes c) (host_of c) (name_of c) (fields_of c) s.first s.last (tag_of c)) span
 
 pub record Requests (old : ClientState) (request : Option (List ℕ)) (new : ClientState) : Type 0 where
   pub goes : GoesOn old new

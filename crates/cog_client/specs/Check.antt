@@ -3,7 +3,7 @@ use Rattle.std.specs.Prelude.{◌≡◌, ℕ, if◌then◌else◌, List, Option,
 use Rattle.std.specs.Option.{option_map}
 use Rattle.std.specs.Str.{bytes_eq}
 use Rattle.http_range.specs.declared.reading.Why.{Why}
-use Rattle.http_range.specs.Ask.{check_text}
+use Rattle.http_range.specs.Ask.{check_with}
 use Rattle.http_range.specs.Book.{Book, published}
 use Rattle.http_range.specs.Honest.{IsHonest}
 use Rattle.http_range.specs.Piece.{number_of_why}
@@ -12,7 +12,7 @@ use Rattle.cog_client.specs.declared.delivered.Current.{Current}
 use Rattle.cog_client.specs.declared.delivered.Current.TheVariants.{Same, Other, Unknown}
 use Rattle.cog_client.specs.declared.delivered.Unknown as unknown
 use Rattle.cog_client.specs.declared.delivered.Unknown.TheVariants.{NotUsed, NoRevision}
-use Rattle.cog_client.specs.Client.{ClientState, host_of, name_of, tag_of}
+use Rattle.cog_client.specs.Client.{ClientState, fields_of, host_of, name_of, tag_of}
 
 -- the numbers under which unknown answers are told
 abbrev pub number_of_unknown : unknown.Unknown → ℕ
@@ -21,7 +21,7 @@ number_of_unknown NoRevision = 12
 
 -- the text of the client's check, none without a revision
 abbrev pub check_of : ClientState → Option (List ℕ)
-check_of c = option_map (check_text (host_of c) (name_of c)) (tag_of c)
+check_of c = option_map (check_with (host_of c) (name_of c) (fields_of c)) (tag_of c)
 
 -- what the answer to a check that is read so says to a client with this tag
 abbrev pub current_by : List ℕ → Result (List ℕ) Why → Current

@@ -1,12 +1,14 @@
 -- The words for what callers know of a client, and when what it holds is of a published file.
 use Rattle.cog_reader.specs.declared.ahead.TheConstants.{MAX_BLOCKS}
 use Rattle.cog_reader.specs.Going.{CachedReader, work}
-use Rattle.std.specs.Prelude.{◌≡◌, ℕ, ◌+◌, ◌*◌, ◌<◌, ◌≤◌, Bool, not, ◌||◌, nat_lt, IsTrue, if◌then◌else◌, List, [], length, Option, Some, None, IfSome, IsSomeAnd, is_some, ⊤}
+use Rattle.std.specs.Prelude.{◌≡◌, ℕ, ◌+◌, ◌*◌, ◌<◌, ◌≤◌, Bool, false, not, ◌||◌, nat_lt, IsTrue, if◌then◌else◌, List, [], ◌∷◌, length, Option, Some, None, IfSome, IsSomeAnd, is_some, ⊤}
 use Rattle.std.specs.Option.{option_map, option_map_or}
 use Rattle.tiff_dir.specs.declared.query.Query.{Query}
 use Rattle.extents.specs.declared.span.Span.{Span}
 use Rattle.extents.specs.Extent.{Extent}
 use Rattle.http_range.specs.Names.{is_host, is_name}
+use Rattle.http_fields.specs.Target.{IsAuthority, is_authority_text, is_target}
+use Rattle.http_fields.specs.Text.{FieldLine}
 use Rattle.http_range.specs.Book.{Publication, Book, In}
 use Rattle.range_cache.specs.declared.cache.TheConstants.{MAX_CAPACITY, MIN_CAPACITY}
 use Rattle.extents.specs.declared.limits.TheConstants.{BLOCK_SIZE, MAX_RANGE_BYTES}
@@ -17,6 +19,8 @@ use Rattle.tile_plan.specs.TileCache.{KeptTile}
 use Rattle.cog_client.specs.declared.request_options.RequestOptions.{RequestOptions}
 use Rattle.cog_client.specs.declared.error.ClientError.{ClientError}
 use Rattle.cog_client.specs.declared.error.ClientError.TheVariants.{Host, Name, Blocks as BadBlocks, Memory}
+use Rattle.cog_client.specs.declared.error.UrlError.{UrlError}
+use Rattle.cog_client.specs.declared.error.UrlError.TheVariants as url
 use Rattle.cog_client.specs.declared.report.Report.{Report}
 use Rattle.cog_client.specs.declared.revision_reader.RevisionReader.{RevisionReader}
 use Rattle.cog_client.specs.Case.{Revision}
@@ -44,6 +48,19 @@ client_refusal host name blocks =
 abbrev pub IsClientRefusal : Option ClientError → ClientError → Type 0
 IsClientRefusal refusal Memory = refusal ≡ None
 IsClientRefusal refusal error = refusal ≡ Some error
+
+-- a client may be made for a URL of this authority and this target
+abbrev pub MayStartByUrl : List ℕ → List ℕ → ℕ → Type 0
+MayStartByUrl authority target blocks =
+    IsAuthority authority × IsTrue (is_target target) × (MIN_CAPACITY ≤ blocks) × (blocks ≤ MAX_CAPACITY)
+
+-- The client is refused for this, the first that holds, and for want of memory only where nothing else stands against it.
+abbrev pub IsUrlRefusal : List ℕ → List ℕ → ℕ → UrlError → Type 0
+IsUrlRefusal authority target blocks url.Authority = ¬ (IsAuthority authority)
+IsUrlRefusal authority target blocks url.Target = IsAuthority authority × (is_target target ≡ false)
+IsUrlRefusal authority target blocks url.Blocks =
+    IsAuthority authority × IsTrue (is_target target) × (MIN_CAPACITY ≤ blocks → MAX_CAPACITY < blocks)
+IsUrlRefusal authority target blocks url.Memory = MayStartByUrl authority target blocks
 
 -- ---- what callers know of it
 
@@ -77,6 +94,14 @@ closes c = (how_of c).closes
 -- how many blocks it looks ahead
 abbrev pub ahead_of : ClientState → ℕ
 ahead_of c = (how_of c).ahead
+
+-- The field lines that its requests and checks have, beside their own.
+abbrev pub fields_of : ClientState → List FieldLine
+fields_of c = (how_of c).fields
+
+-- It is as one that was made by a host and a name, without such lines.
+abbrev pub IsPlain : ClientState → Type 0
+IsPlain c = IsTrue (is_host (host_of c)) × IsTrue (is_name (name_of c)) × (fields_of c ≡ [])
 
 -- The query of the last opening.
 unfoldable pub query_of : ClientState → Option Query
@@ -165,8 +190,8 @@ abbrev pub IsFew : Span → Type 0
 IsFew s = s.last < s.first + MAX_BLOCKS * BLOCK_SIZE
 
 pub record IsClient (c : ClientState) : Type 0 where
-  pub hosted : IsTrue (is_host c.host)
-  pub named : IsTrue (is_name c.name)
+  pub hosted : IsTrue (is_authority_text c.host)
+  pub named : IsTrue (is_target (47 ∷ c.name))
   pub alone : IsAlone c.source c.cache c.report c.feed
   pub reading : IfSome c.source (IsReadingOf c.query c.report)
   pub tiles : IfSome c.source (MayKeep c.cache)

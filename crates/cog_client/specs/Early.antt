@@ -11,7 +11,7 @@ use Rattle.range_cache.specs.Numbers.{has}
 use Rattle.cog_reader.specs.declared.ahead.TheConstants.{MAX_BLOCKS}
 use Rattle.cog_reader.specs.Going.{OneTouches}
 use Rattle.cog_reader.specs.Early.{AreApart, IsRunIn, LeavesNothing}
-use Rattle.cog_client.specs.Client.{ClientState, Knows, ahead_of, asked_of, blocks_of, closes, host_of, name_of, reader_of, revision_of, tag_of, to_come}
+use Rattle.cog_client.specs.Client.{ClientState, Knows, ahead_of, asked_of, blocks_of, closes, fields_of, host_of, name_of, reader_of, revision_of, tag_of, to_come}
 use Rattle.cog_client.specs.Calls.{request_for}
 
 -- In a file of this length the span is of the blocks from one number up to another, which begin in it, and are 65 at most. It lies behind
@@ -57,7 +57,7 @@ pub record AreEarly (c : ClientState) (spans : List Span) : Type 0 where
 -- The text is the client's request for the span, under the condition that the file still has the revision's tag.
 pub record IsRequestFor (c : ClientState) (span : Span) (text : List ℕ) : Type 0 where
   pub asks : Some text ≡ request_for c (Some span)
-  pub lawful : CanAsk (host_of c) (name_of c) span.first span.last (tag_of c)
+  pub lawful : CanAsk (host_of c) (name_of c) (fields_of c) span.first span.last (tag_of c)
 
 -- The texts are requests for such spans, one for each, in their order.
 pub record AreEarlyRequests (c : ClientState) (texts : List (List ℕ)) : Type 0 where

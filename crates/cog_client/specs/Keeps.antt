@@ -1,11 +1,12 @@
 -- What each call of a client keeps of the file that it knows, beside what a caller sees of the call.
-use Rattle.std.specs.Prelude.{◌≡◌, ℕ, ◌⊎◌, false, List, Option, Some, None, IfSome, IsSome, slice_get, IfOk, Result}
+use Rattle.std.specs.Prelude.{◌≡◌, ℕ, ◌⊎◌, false, List, [], ◌∷◌, ◌++◌, Option, Some, None, IfSome, IsSome, slice_get, IfOk, Result}
 use Rattle.tiff_dir.specs.declared.query.Query.{Query}
 use Rattle.extents.specs.declared.span.Span.{Span}
 use Rattle.extents.specs.Extent.{Extent}
 use Rattle.tiff_dir.specs.Needs.{IsEndOf}
 use Rattle.tiff_dir.specs.Query.{needs}
 use Rattle.http_range.specs.declared.reading.Why.{Why}
+use Rattle.http_fields.specs.Text.{FieldLine}
 use Rattle.http_range.specs.Ask.{CanAsk}
 use Rattle.http_range.specs.Book.{Book, HasDistinctTags}
 use Rattle.http_range.specs.Honest.{IsPieceOfBook, IsReadAs}
@@ -19,7 +20,7 @@ use Rattle.cog_client.specs.AnswerPhase.{TakesNoBody, nothing_fed}
 use Rattle.cog_client.specs.Take.{IsIgnored, asked_or_first, base_of, first_span, stored_front, take}
 use Rattle.cog_client.specs.Report.{IsTrueReport}
 use Rattle.cog_client.specs.declared.request_options.RequestOptions.{RequestOptions}
-use Rattle.cog_client.specs.Client.{ClientState, Knows, ClientAgrees, ahead_of, asked_of, blocks_of, feed_of, holding, host_of, how_of, name_of, query_of, report_of, revision_of, tag_of, to_come, unread}
+use Rattle.cog_client.specs.Client.{ClientState, Knows, ClientAgrees, ahead_of, asked_of, blocks_of, feed_of, fields_of, holding, host_of, how_of, name_of, query_of, report_of, revision_of, tag_of, to_come, unread}
 use Rattle.cog_reader.specs.Reader.{AreOfOneLevel}
 use Rattle.cog_reader.specs.Going.{AreSame, AreTouched, HasRoom, IsMissing}
 use Rattle.cog_client.specs.Calls.{Delivers, GoesOn, IsIdle, Opens, Requests, SameClient}
@@ -92,6 +93,10 @@ pub record AsksLike (how : RequestOptions) (old new : ClientState) : Type 0 wher
 abbrev pub KeepsOpen : ClientState → ClientState → Type 0
 KeepsOpen old new = AsksLike (record (how_of old) { closes = false }) old new
 
+-- Its requests and checks have this line, too, after those before.
+abbrev pub AddsField : FieldLine → ClientState → ClientState → Type 0
+AddsField l old new = AsksLike (record (how_of old) { fields = fields_of old ++ l ∷ [] }) old new
+
 -- It looks so many blocks ahead.
 abbrev pub LooksAhead : ℕ → ClientState → ClientState → Type 0
 LooksAhead blocks old new = AsksLike (record (how_of old) { ahead = blocks }) old new
@@ -100,7 +105,7 @@ LooksAhead blocks old new = AsksLike (record (how_of old) { ahead = blocks }) ol
 
 pub record RequestsKeeping (old : ClientState) (request : Option (List ℕ)) (new : ClientState) : Type 0 where
   pub seen : Requests old request new
-  pub lawful : IfSome (asked_of new) (λ s. CanAsk (host_of old) (name_of old) s.first s.last (tag_of old))
+  pub lawful : IfSome (asked_of new) (λ s. CanAsk (host_of old) (name_of old) (fields_of old) s.first s.last (tag_of old))
   pub goes : GoesOnKeeping old new
   pub asks : IfSome (asked_of new) (AsksFor new (revision_of new) (ahead_of new))
 

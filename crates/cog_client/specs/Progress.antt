@@ -6,7 +6,7 @@ use Rattle.extents.specs.declared.span.Span.{Span}
 use Rattle.extents.specs.Extent.{Extent, ends_past}
 use Rattle.tiff_dir.specs.Query.{blocks_of_extent as touched, cost, needs}
 use Rattle.http_fields.specs.declared.limits.TheConstants.{HEAD_LIMIT}
-use Rattle.http_range.specs.Ask.{CanAsk, request_by}
+use Rattle.http_range.specs.Ask.{CanAsk, request_with}
 use Rattle.http_range.specs.declared.reading.Why.{Why}
 use Rattle.http_range.specs.Book.{Publication, Book, Catalogue, HasDistinctTags, In, IsCatalogue, published}
 use Rattle.http_range.specs.Honest.{IsPieceOf}
@@ -23,7 +23,7 @@ use Rattle.cog_client.specs.declared.request_options.RequestOptions.{RequestOpti
 use Rattle.cog_client.specs.declared.delivered.Delivered.{Delivered}
 use Rattle.cog_client.specs.Case.{Revision}
 use Rattle.cog_client.specs.Take.{IsIgnored}
-use Rattle.cog_client.specs.Client.{ClientAgrees, ClientState, Knows, asked_of, blocks_of, closes, host_of, name_of, query_of, report_of, revision_of, tag_of, to_come}
+use Rattle.cog_client.specs.Client.{ClientAgrees, ClientState, Knows, asked_of, blocks_of, closes, fields_of, host_of, name_of, query_of, report_of, revision_of, tag_of, to_come}
 use Rattle.cog_client.specs.Keeps.{AsksFor, AsksLike, DeliversKeeping, GoesOnKeeping, LooksAhead, OpensKeeping, RequestsKeeping}
 
 -- ---- counting
@@ -118,9 +118,9 @@ pub record IsOwnAnswer (c : ClientState) (p : Publication) (span : Span) (text :
   pub asked : asked_of c ≡ Some span
   pub ahead : ℕ
   pub asks : AsksFor c (revision_of c) ahead span
-  pub can : CanAsk (host_of c) (name_of c) span.first span.last (tag_of c)
+  pub can : CanAsk (host_of c) (name_of c) (fields_of c) span.first span.last (tag_of c)
   pub response : Response
-  pub answers : IsAnswer catalogue (request_by (closes c) (host_of c) (name_of c) span.first span.last (tag_of c)) response
+  pub answers : IsAnswer catalogue (request_with (closes c) (host_of c) (name_of c) (fields_of c) span.first span.last (tag_of c)) response
   pub shown : text ≡ text_of response
 
 -- The piece is of p, and serves a request for these bytes under a known tag, or none. Where that is p's tag, or there is none, the piece has

@@ -4,7 +4,7 @@ use Rattle.extents.specs.declared.span.Span.{Span}
 use Rattle.http_range.specs.Ask.{CanAsk}
 use Rattle.http_range.specs.Book.{Publication}
 use Rattle.cog_client.specs.Calls.{request_for}
-use Rattle.cog_client.specs.Client.{ClientState, Knows, ahead_of, asked_of, host_of, name_of, revision_of, tag_of}
+use Rattle.cog_client.specs.Client.{ClientState, Knows, ahead_of, asked_of, fields_of, host_of, name_of, revision_of, tag_of}
 use Rattle.cog_client.specs.Keeps.{AsksFor}
 use Rattle.cog_client.specs.Progress.{IsServed}
 use Rattle.cog_client.specs.Transport.{Coming}
@@ -14,7 +14,7 @@ pub record AsksBy (p : Publication) (c : ClientState) (span : Span) (request : L
   pub named : p.name ≡ name_of c
   pub asked : asked_of c ≡ Some span
   pub asks : AsksFor c (revision_of c) (ahead_of c) span
-  pub can : CanAsk (host_of c) (name_of c) span.first span.last (tag_of c)
+  pub can : CanAsk (host_of c) (name_of c) (fields_of c) span.first span.last (tag_of c)
   pub text : Some request ≡ request_for c (Some span)
   pub knows : tag_of c ≡ Some p.tag → Knows p.file c
 

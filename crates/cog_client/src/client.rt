@@ -4,6 +4,7 @@ ghost use Rattle.cog_client.specs.Take.{first_span};
 
 mod early;
 mod feeds;
+mod starting;
 
 use crate::delivered::{Current, Unknown};
 use crate::error::ClientError;
@@ -11,11 +12,12 @@ use crate::partial_answer::PartialAnswer;
 use crate::report::Report;
 use crate::request_options::RequestOptions;
 use crate::revision_reader::RevisionReader;
+use crate::url::{is_plain_host, is_plain_name};
 use cog_reader::{fill, law_end_is_wanted, law_nothing_comes};
 use extents::{BLOCK_SIZE, Memory};
 use http_range::{
-    CheckReading, Head, Span, Tag, is_host, is_name, law_fronts_are_read, read_check, write_check,
-    write_open_request, write_request,
+    CheckReading, FieldError, Head, RequestFields, Span, Tag, law_fronts_are_read,
+    law_requests_are_short, read_check, write_check_with, write_request_with,
 };
 use range_cache::{Cache, CacheError};
 use std::alloc::Global;
@@ -103,16 +105,17 @@ impl Client {
     ghost use Rattle.std.specs.Option.{option_map};
     ghost use Rattle.tiff_dir.specs.Described.{AreLevels};
     ghost use Rattle.extents.specs.declared.limits.TheConstants.{BLOCK_SIZE, MAX_RANGE_BYTES};
-    ghost use Rattle.cog_client.specs.declared.request_options.TheConstants.{REQUEST_LIMIT};
+    ghost use Rattle.cog_client.specs.declared.request_options.TheConstants.{REQUEST_LIMIT, URL_REQUEST_LIMIT};
     ghost use Rattle.tile_plan.specs.TileCache.{size_of_tiles};
     ghost use Rattle.http_range.specs.Ask.{CanAsk, CanCheck};
     ghost use Rattle.http_range.specs.Announced.{announced};
     ghost use Rattle.http_range.specs.Tag.{is_kept_tag};
     ghost use Rattle.cog_client.specs.declared.delivered.Current.TheVariants.{Same};
-    ghost use Rattle.cog_client.specs.Client.{client_refusal, AreDirectoriesKnown, IsFew, IsClientRefusal, Knows, asked_of, buffer_of, feed_of, host_of, name_of, blocks_of, query_of, report_of, revision_of, tag_of, tiles_of};
+    ghost use Rattle.cog_client.specs.Client.{client_refusal, AreDirectoriesKnown, IsFew, IsClientRefusal, IsPlain, Knows, asked_of, buffer_of, feed_of, fields_of, host_of, name_of, blocks_of, query_of, report_of, revision_of, tag_of, tiles_of};
     ghost use Rattle.cog_client.specs.FedClient.{revision_of_head};
     ghost use Rattle.cog_client.specs.Calls.{Forgets, Starts, request_for, unless_reported};
-    ghost use Rattle.cog_client.specs.Keeps.{GoesOnKeeping, KeepsOpen, LooksAhead, Misses, OpensKeeping, RequestsKeeping, Stands, StopsAsking};
+    ghost use Rattle.cog_client.specs.Keeps.{AddsField, GoesOnKeeping, KeepsOpen, LooksAhead, Misses, OpensKeeping, RequestsKeeping, Stands, StopsAsking};
+    ghost use Rattle.http_fields.specs.FieldRefusal.{IsFieldRefusal, field_refusal};
     ghost use Rattle.cog_reader.specs.Reader.{outcome_of};
     ghost use Rattle.cog_client.specs.Steps.{Adopts};
     ghost use Rattle.cog_client.specs.Check.{IsCurrent, IsStillThere, check_of};
@@ -136,10 +139,10 @@ impl Client {
         ensures ok { OnOk result (client_refusal host.now name.now blocks ≡ None) }
         ensures refused { IfErr result (IsClientRefusal (client_refusal host.now name.now blocks)) }
     {
-        if !is_host(host) {
+        if !is_plain_host(host) {
             return Err(ClientError::Host);
         }
-        if !is_name(name) {
+        if !is_plain_name(name) {
             return Err(ClientError::Name);
         }
         let cache = match Cache::new(alloc, blocks) {
@@ -147,22 +150,9 @@ impl Client {
             Err(CacheError::Blocks) => return Err(ClientError::Blocks),
             Err(CacheError::Memory) => return Err(ClientError::Memory),
         };
-        let partial_answer = PartialAnswer::new(alloc)?;
-        Ok(Client {
-            alloc,
-            how: RequestOptions {
-                closes: true,
-                ahead: 0,
-            },
-            host: Vec::from_slice(alloc, host)?,
-            name: Vec::from_slice(alloc, name)?,
-            query: None,
-            asked: None,
-            source: None,
-            cache,
-            report: None,
-            partial_answer,
-        })
+        let none = RequestFields::new(alloc);
+        let client = Client::start(alloc, host, name, none, cache)?;
+        Ok(client)
     }
 
     /// Asks `query` instead of the one before. Drops the report, and what was asked of the server, with an unfinished
@@ -210,6 +200,19 @@ impl Client {
         ensures { LooksAhead blocks self.old self.new }
     {
         self.how.ahead = blocks;
+    }
+
+    /// Adds a field line to each request and check from now on, after those before. A request that was made already
+    /// stays as it is. Fails as `RequestFields::push` does, and then nothing changes.
+    pub fn add_field(&mut self, name: &[u8], value: &[u8]) -> Result<(), FieldError>
+        ensures ok { OnOk result (AddsField (name.now, value.now) self.old self.new) }
+        ensures err { IfErr result (IsFieldRefusal (field_refusal (fields_of self.old) (name.now, value.now))) }
+        ensures unchanged { OnErr result (self.new ≡ self.old) }
+    {
+        match self.how.fields.push(name, value) {
+            Ok(()) => Ok(()),
+            Err(error) => Err(error),
+        }
     }
 
     /// Returns the report, or `None`. It stands until `open` or `forget`. It allocates nothing.
@@ -286,7 +289,8 @@ impl Client {
         ensures err { OnErr result (StopsAsking self.old self.new) }
         // An error comes only where there is a query and no report.
         ensures asks { OnErr result (IsSome (query_of self.old) × (report_of self.old ≡ None)) }
-        ensures short { IfOk result (λ o. IfSome o (λ text. length text.items ≤ REQUEST_LIMIT)) }
+        ensures short { IfOk result (λ o. IfSome o (λ text. IsPlain self.old → length text.items ≤ REQUEST_LIMIT)) }
+        ensures long { IfOk result (λ o. IfSome o (λ text. length text.items ≤ URL_REQUEST_LIMIT)) }
     {
         self.partial_answer.clear();
         self.asked = None;
@@ -297,6 +301,7 @@ impl Client {
         let Some(span) = span else {
             return Ok(None);
         };
+        law_requests_are_short();
         let text = self.request_for(span)?;
         self.asked = Some(span);
         Ok(Some(text))
@@ -323,14 +328,20 @@ impl Client {
     /// Returns the text of the request for `span`.
     fn request_for(&self, span: Span) -> Result<Vec<u8>, Memory>
         ensures text { IfOk result (λ text. Some text.items ≡ request_for self.now (Some span)) }
-        ensures lawful { CanAsk (host_of self.now) (name_of self.now) span.first span.last (tag_of self.now) }
+        ensures lawful { CanAsk (host_of self.now) (name_of self.now) (fields_of self.now) span.first span.last (tag_of self.now) }
     {
         let tag = self.tag();
-        if self.how.closes {
-            write_request(self.alloc, &self.host, &self.name, span, tag)
-        } else {
-            write_open_request(self.alloc, &self.host, &self.name, span, tag)
-        }
+        let options = &self.how;
+        options.fields.may_be_added();
+        write_request_with(
+            self.alloc,
+            &self.host,
+            &self.name,
+            &options.fields,
+            span,
+            tag,
+            options.closes,
+        )
     }
 
     /// Gives the reader what the blocks have, and returns the byte range that it still lacks. Where it lacks none, its
@@ -406,14 +417,19 @@ impl Client {
     /// If-None-Match (RFC 9110, section 13.1.2). Returns `None` without a revision. Fails with `Memory` alone.
     pub fn check(&self) -> Result<Option<Vec<u8>>, Memory>
         ensures text { IfOk result (λ o. option_map (λ v. v.items) o ≡ check_of self.now) }
-        ensures lawful { IfSome (tag_of self.now) (CanCheck (host_of self.now) (name_of self.now)) }
+        ensures lawful { IfSome (tag_of self.now) (CanCheck (host_of self.now) (name_of self.now) (fields_of self.now)) }
         ensures err { OnErr result (IsSome (tag_of self.now)) }
-        ensures short { IfOk result (λ o. IfSome o (λ text. length text.items ≤ REQUEST_LIMIT)) }
+        ensures short { IfOk result (λ o. IfSome o (λ text. IsPlain self.now → length text.items ≤ REQUEST_LIMIT)) }
+        ensures long { IfOk result (λ o. IfSome o (λ text. length text.items ≤ URL_REQUEST_LIMIT)) }
     {
+        law_requests_are_short();
+        let options = &self.how;
+        let fields = &options.fields;
+        fields.may_be_added();
         match self.tag() {
             None => Ok(None),
             Some(tag) => {
-                let text = write_check(self.alloc, &self.host, &self.name, tag)?;
+                let text = write_check_with(self.alloc, &self.host, &self.name, fields, tag)?;
                 Ok(Some(text))
             }
         }

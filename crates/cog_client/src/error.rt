@@ -47,6 +47,35 @@ impl From<std::alloc::AllocError> for ClientError {
     }
 }
 
+/// Why a client of a URL isn't made.
+#[derive(Clone, Copy, Debug, Error, PartialEq, Eq)]
+pub enum UrlError {
+    /// The authority isn't host and port of 1 to 255 bytes, without userinfo (RFC 3986, sections 3.2.2 and 3.2.3).
+    #[error("not a host with its port")]
+    Authority,
+    /// The target isn't path and query of at most 2,048 bytes (RFC 9112, section 3.2.1).
+    #[error("not a path with its query")]
+    Target,
+    /// The cache has fewer than 66 or more than 4,096 blocks.
+    #[error("a cache has 66 to 4,096 blocks")]
+    Blocks,
+    /// An allocation failed.
+    #[error("out of memory")]
+    Memory,
+}
+
+impl From<std::alloc::AllocError> for UrlError {
+    ghost use Rattle.cog_client.specs.declared.error.UrlError.TheVariants.{Memory};
+
+    ghost from_gives = { λ _ e. e ≡ Memory };
+
+    ghost use Rattle.std.specs.Prelude.{◌≡◌};
+
+    fn from(_refused: std::alloc::AllocError) -> UrlError {
+        UrlError::Memory
+    }
+}
+
 /// Why fetching ended without an answer.
 #[derive(Clone, Copy, Debug, Error, PartialEq, Eq)]
 pub enum FetchError {

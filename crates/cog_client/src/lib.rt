@@ -17,12 +17,13 @@ mod report;
 mod request_options;
 mod revision_reader;
 mod transport;
+mod url;
 
 pub use client::Client;
 pub use cog_reader::{Info, MAX_BLOCKS, Outcome, Window};
 pub use delivered::{Current, Delivered, Ignored, Unknown};
-pub use error::{ClientError, FetchError};
-pub use http_range::{Span, Tag, Why};
+pub use error::{ClientError, FetchError, UrlError};
+pub use http_range::{FieldError, RequestFields, Span, Tag, Why};
 pub use laws::{
     law_agreement_is_seen, law_answers_begin_anywhere, law_answers_come_in_pieces,
     law_end_is_needed, law_equal_reports_are_true, law_fronts_keep_agreement, law_left_never_grows,
@@ -31,6 +32,6 @@ pub use laws::{
 };
 pub use pieces::Pieces;
 pub use report::Report;
-pub use request_options::REQUEST_LIMIT;
+pub use request_options::{REQUEST_LIMIT, URL_REQUEST_LIMIT};
 pub use tiff_dir::{Memory, Query};
 pub use transport::{Lost, Transport};

@@ -4,6 +4,7 @@ ghost use Rattle.http_range.specs.Book.{Book};
 ghost use Rattle.cog_client.specs.Pieces.{BringsOf};
 ghost use Rattle.cog_client.specs.Transport.{AnswersOn, IsTrueToAll, OrLost, SpeaksOn};
 
+use crate::client::Client;
 use crate::transport::Lost;
 
 /// Carries requests to a server, and brings its answers in pieces, whole or cut, or none.
@@ -50,6 +51,24 @@ pub trait Pieces {
         ensures goes_on { AnswersOn (OrLost (answers self.old)) (OrLost (answers self.new)) }
         ensures speaks { SpeaksOn (speaks_for self.old) (speaks_for self.new) }
         ensures counted { count self.new ≡ count self.old };
+
+    /// Notes that an exchange begins, in which `client` asks `request`.
+    fn exchange_begins(&mut self, _client: &Client, _request: &[u8])
+        ensures rest { rest self.new ≡ rest self.old }
+        ensures kept { has_lost self.new ≡ has_lost self.old }
+        ensures goes_on { AnswersOn (OrLost (answers self.old)) (OrLost (answers self.new)) }
+        ensures speaks { SpeaksOn (speaks_for self.old) (speaks_for self.new) }
+        ensures counted { count self.new ≡ count self.old }
+    {}
+
+    /// Notes that the exchange is over, and that `client` has taken what came of it.
+    fn exchange_ends(&mut self, _client: &Client)
+        ensures rest { rest self.new ≡ rest self.old }
+        ensures kept { has_lost self.new ≡ has_lost self.old }
+        ensures goes_on { AnswersOn (OrLost (answers self.old)) (OrLost (answers self.new)) }
+        ensures speaks { SpeaksOn (speaks_for self.old) (speaks_for self.new) }
+        ensures counted { count self.new ≡ count self.old }
+    {}
 
     /// Takes the requests that are likely to be started next, the next one first. An implementation may send them
     /// early. Each of them is still started in its turn, or another one is.

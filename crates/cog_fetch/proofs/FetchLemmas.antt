@@ -4,7 +4,7 @@ use Rattle.std.specs.Prelude.{IsTrue}
 use Rattle.cog_client.specs.Client.{ClientState}
 use Rattle.cog_client.specs.Transport.{AnswersOn, Coming, Fetches, FetchesOnce, StopsFetching, StopsOnce, TakesOrLoses, UnlessTold}
 
-takes_as : (before after : Coming) → AnswersOn before after → (request : List ℕ) (old new : ClientState)
+pub takes_as : (before after : Coming) → AnswersOn before after → (request : List ℕ) (old new : ClientState)
     → TakesOrLoses after request old new → TakesOrLoses before request old new
 takes_as before after on request old new (inl lost) = inl (on request None lost.0, lost.1)
 takes_as before after on request old new (inr (text, what, came, delivers)) = inr (text, what, on request (Some text) came, delivers)

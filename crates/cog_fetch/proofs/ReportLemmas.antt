@@ -13,7 +13,8 @@ use Rattle.http_range.specs.Honest.{IsPieceOfBook, IsReadAs}
 use Rattle.http_range.specs.Laws.{TagsTellOne}
 use Rattle.cog_client.specs.Calls.{IsIdle, request_for}
 use Rattle.cog_client.specs.Case.{Revision}
-use Rattle.cog_client.specs.Client.{ClientAgrees, ClientState, Knows, KnowsOne, ahead_of, asked_of, host_of, how_of, name_of, query_of, report_of, revision_of, tag_of}
+use Rattle.cog_client.specs.declared.request_options.RequestOptions.{RequestOptions}
+use Rattle.cog_client.specs.Client.{ClientAgrees, ClientState, Knows, KnowsOne, ahead_of, asked_of, fields_of, host_of, how_of, name_of, query_of, report_of, revision_of, tag_of}
 use Rattle.cog_client.specs.Keeps.{AsksFor, AsksLike, OpensKeeping}
 use Rattle.cog_client.specs.Progress.{AnswersReport, AreExchanges, Exchanges, IsGiven, IsServed}
 use Rattle.cog_client.specs.Serves.{AsksBy, Serves}
@@ -38,12 +39,14 @@ same_text old new span how host name revision = cc
 abbrev tag_by : Option Revision → Option (List ℕ)
 tag_by o = option_map (λ (v : Revision). v.tag) o
 
-same_asking : (old new : ClientState) (span : Span) → host_of new ≡ host_of old → name_of new ≡ name_of old → revision_of new ≡ revision_of old
-    → CanAsk (host_of old) (name_of old) span.first span.last (tag_of old) → CanAsk (host_of new) (name_of new) span.first span.last (tag_of new)
-same_asking old new span host name revision can =
-    subst (λ h. CanAsk h (name_of new) span.first span.last (tag_of new)) (sym host)
-    (subst (λ n. CanAsk (host_of old) n span.first span.last (tag_of new)) (sym name)
-    (subst (λ t. CanAsk (host_of old) (name_of old) span.first span.last t) (ap tag_by (sym revision)) can))
+same_asking : (old new : ClientState) (span : Span) → how_of new ≡ how_of old → host_of new ≡ host_of old → name_of new ≡ name_of old → revision_of new ≡ revision_of old
+    → CanAsk (host_of old) (name_of old) (fields_of old) span.first span.last (tag_of old)
+    → CanAsk (host_of new) (name_of new) (fields_of new) span.first span.last (tag_of new)
+same_asking old new span how host name revision can =
+    subst (λ (w : RequestOptions). CanAsk (host_of new) (name_of new) w.fields span.first span.last (tag_of new)) (sym how)
+    (subst (λ h. CanAsk h (name_of new) (fields_of old) span.first span.last (tag_of new)) (sym host)
+    (subst (λ n. CanAsk (host_of old) n (fields_of old) span.first span.last (tag_of new)) (sym name)
+    (subst (λ t. CanAsk (host_of old) (name_of old) (fields_of old) span.first span.last t) (ap tag_by (sym revision)) can)))
 
 some_of : {A : Type 0} (o : Option A) (x : A) (P : A → Type 0) → o ≡ Some x → IfSome o P → P x
 some_of o x P is h = subst (λ z. IfSome z P) is h
@@ -110,8 +113,8 @@ module _ (one : TagsTellOne) (came : Coming) (p : Publication) (all : AllServe c
           named = name_is;
           asked = is;
           asks = some_of (asked_of asking) span (AsksFor asking (revision_of asking) (ahead_of asking)) is once.asks.asks;
-          can = same_asking mid asking span goes.same.host goes.same.name goes.revision
-              (some_of (asked_of asking) span (λ s. CanAsk (host_of mid) (name_of mid) s.first s.last (tag_of mid)) is once.asks.lawful);
+          can = same_asking mid asking span goes.same.how goes.same.host goes.same.name goes.revision
+              (some_of (asked_of asking) span (λ s. CanAsk (host_of mid) (name_of mid) (fields_of mid) s.first s.last (tag_of mid)) is once.asks.lawful);
           text = text ∙ same_text mid asking span goes.same.how goes.same.host goes.same.name goes.revision;
           knows = knows_file asking agrees_still;
         }

@@ -130,3 +130,11 @@ pub keeps_whole : (before after : Book → Type 0) (old new : ClientState) (text
 keeps_whole before after old new text on shows same agrees =
     keeps_taking before before after text old new (λ p spoken. spoken) on shows
     (record { bytes = text; next = λ p spoken. ([], append-nil text); same = same; agrees = agrees })
+
+-- what is kept from a moment on is kept from before it
+pub keeps_later : (before mid after : Book → Type 0) (old new : ClientState) → SpeaksOn before mid → KeepsReading mid after old new
+    → KeepsReading before after old new
+keeps_later before mid after old new on keeps = record {
+  same = keeps.same;
+  reads = λ book is. keeps.reads book (record { named = is.named; distinct = is.distinct; spoken = on book is.spoken; agrees = is.agrees });
+}

@@ -94,6 +94,34 @@ fn foresee<P: Pieces>(client: &Client, source: &mut P, later: u32) -> Result<(),
 /// An answer comes in pieces, as it arrives. The source is given the requests that are likely to follow.
 pub(crate) struct InPieces;
 
+/// Sends a request to a source, and gives the client the pieces that come of its answer. At most `later` exchanges
+/// follow. Fails with `Memory` alone.
+fn exchange_in_pieces<P: Pieces>(
+    client: &mut Client,
+    source: &mut P,
+    request: &[u8],
+    later: u32,
+) -> Result<(), FetchError>
+    requires { P.count source.old + 1 < 2 ^ 64 }
+    ensures keeps { KeepsReading (P.speaks_for source.old) (P.speaks_for source.new) client.old client.new }
+    ensures takes { OnOk result (TakesOrLoses (TakenOf (P.speaks_for source.old) (P.answers source.old) (P.has_lost source.new))
+        request.now client.old client.new) }
+    ensures stops { OnErr result (StopsWithin (TakenOf (P.speaks_for source.old) (P.answers source.old) true)
+        request.now client.old client.new) }
+    ensures told { IsTrue (P.has_lost source.old) → IsTrue (P.has_lost source.new) }
+    ensures goes_on { AnswersOn (OrLost (P.answers source.old)) (OrLost (P.answers source.new)) }
+    ensures speaks { SpeaksOn (P.speaks_for source.old) (P.speaks_for source.new) }
+    ensures counted { P.count source.new ≡ P.count source.old + 1 }
+{
+    match source.start(request) {
+        Ok(()) => {
+            let _ = foresee(client, source, later);
+            Ok(take_answer(client, source)?)
+        }
+        Err(Lost) => Ok(()),
+    }
+}
+
 impl<P: Pieces> Exchange<P> for InPieces {
     ghost speaks_for = { P.speaks_for };
 
@@ -109,13 +137,10 @@ impl<P: Pieces> Exchange<P> for InPieces {
         request: &[u8],
         later: u32,
     ) -> Result<(), FetchError> {
-        match source.start(request) {
-            Ok(()) => {
-                let _ = foresee(client, source, later);
-                Ok(take_answer(client, source)?)
-            }
-            Err(Lost) => Ok(()),
-        }
+        source.exchange_begins(client, request);
+        exchange_in_pieces(client, source, request, later)?;
+        source.exchange_ends(client);
+        Ok(())
     }
 
     fn more() {}

@@ -187,32 +187,3 @@ pub fn fetch_pieces<'c, P: Pieces>(
     exchange_up_to::<P, InPieces>(client, pieces, tries)?;
     Ok(client.report())
 }
-
-/// Makes one exchange as `fetch_pieces` does, if the client has a request, and returns whether it had one. At most
-/// `later` exchanges follow. The source may be given as many requests before their turn, and may send them early. Fails
-/// with `Memory` alone, and the client can go on from there.
-pub fn exchange_pieces<P: Pieces>(
-    client: &mut Client,
-    pieces: &mut P,
-    later: u32,
-) -> Result<bool, FetchError>
-    requires { P.count pieces.old + 1 < 2 ^ 64 }
-    ensures keeps { KeepsReading (P.speaks_for pieces.old) (P.speaks_for pieces.new) client.old client.new }
-    ensures fetches { IfOk result (λ asked. ExchangesOnce (TakenOf (P.speaks_for pieces.old) (P.answers pieces.old)
-        (P.has_lost pieces.new)) asked client.old client.new) }
-    ensures stops { OnErr result (StopsOnce (TakenOf (P.speaks_for pieces.old) (P.answers pieces.old) true) client.old client.new) }
-
-    // A loss stays reported, and what is taken later might have been taken now.
-    ensures told { IsTrue (P.has_lost pieces.old) → IsTrue (P.has_lost pieces.new) }
-    ensures goes_on { (lost : Bool) → AnswersOn (TakenOf (P.speaks_for pieces.old) (P.answers pieces.old) lost)
-        (TakenOf (P.speaks_for pieces.new) (P.answers pieces.new) lost) }
-    ensures counted { IfOk result (λ asked. P.count pieces.new
-        ≡ (if asked then P.count pieces.old + 1 else P.count pieces.old)) }
-    ensures few { P.count pieces.new ≤ P.count pieces.old + 1 }
-    ensures silent { IfOk result (λ asked. asked ≡ false → IsIdle client.new) }
-    ensures idle { IsIdle client.old
-        → (P.count pieces.new ≡ P.count pieces.old) × OnOk result (IsIdle client.new) }
-    ensures stands { IsSome (report_of client.old) → OnOk result (report_of client.new ≡ report_of client.old) }
-{
-    exchange_once::<P, InPieces>(client, pieces, later)
-}

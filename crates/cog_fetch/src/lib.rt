@@ -7,6 +7,6 @@ mod fetching;
 mod laws;
 mod taking;
 
-pub use fetching::{exchange_pieces, fetch, fetch_pieces};
+pub use fetching::{fetch, fetch_pieces};
 pub use laws::law_answer_limit_is;
 pub use taking::{ANSWER_LIMIT, PIECE_ROOM};

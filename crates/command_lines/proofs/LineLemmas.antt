@@ -22,7 +22,7 @@ use Rattle.clap.proofs.OnLiterals.{clap_on_literals}
 use Rattle.clap.proofs.WalkLemmas.{both, first_value-rows, one_text-rows, raw_values-rows}
 use Rattle.clap.proofs.CallerLemmas.{present_has_entry, required_has_value, required_present}
 use Rattle.clap.specs.declared.builder.action.ArgAction.TheVariants.{Set}
-use Rattle.command_lines.specs.ReadLine.{Asks, AsksDescription, AsksWindow, HasFound, HasLine, word_of}
+use Rattle.command_lines.specs.ReadLine.{AreHeaders, Asks, AsksDescription, AsksWindow, HasFound, HasLine, IsOfFour, word_of}
 use Rattle.command_lines.specs.ServeLine.{Tells, choice, flag, option, serve_app, serve_app_of, valued, words}
 use Rattle.command_lines.specs.declared.read.AskedWords.{AskedWords}
 use Rattle.command_lines.specs.declared.read.AskedWords.TheVariants.{Info}
@@ -330,6 +330,51 @@ flag_tells f name here missing shown hidden =
 -- a flag of which the value is known
 pub flag_is : (text : Option (List ℕ)) (here value : Bool) → here ≡ value → Tells text here → Tells text value
 flag_is text here value is tells = subst (Tells text) is tells
+
+-- four values, one by one
+four : (values : List (Bor (List ℕ))) (d : Bor (List ℕ)) → length values ≡ 4
+    → map (λ v. v.now) values ≡ (slice_index_or values 0 d).now ∷ (slice_index_or values 1 d).now ∷ (slice_index_or values 2 d).now ∷ (slice_index_or values 3 d).now ∷ []
+four [] d many = absurd (omega (arith, many))
+four (a ∷ []) d many = absurd (omega (arith, many))
+four (a ∷ b ∷ []) d many = absurd (omega (arith, many))
+four (a ∷ b ∷ c ∷ []) d many = absurd (omega (arith, many))
+four (a ∷ b ∷ c ∷ e ∷ []) d many = refl
+four (a ∷ b ∷ c ∷ e ∷ g ∷ more) d many = absurd (omega (arith, many))
+
+pub four_values : (f : Found) (name : List ℕ) (o : Option (Bor (List (Bor (List ℕ))))) (v : Bor (List (Bor (List ℕ)))) (d : Bor (List ℕ))
+    → option_map (λ s. map (λ w. w.now) s.now) o ≡ option_map raw_values (matched_of f name) → o ≡ Some v → length v.now ≡ 4
+    → all_of name (rows_of f)
+    ≡ Some ((slice_index_or v.now 0 d).now ∷ (slice_index_or v.now 1 d).now ∷ (slice_index_or v.now 2 d).now ∷ (slice_index_or v.now 3 d).now ∷ [])
+four_values f name o v d found is many = all_values f (rows_of f) name o v refl found is ∙ ap Some (four v.now d many)
+
+-- no values aren't four
+pub no_values : (f : Found) (name : List ℕ) (o : Option (Bor (List (Bor (List ℕ)))))
+    → option_map (λ s. map (λ w. w.now) s.now) o ≡ option_map raw_values (matched_of f name) → o ≡ None → ¬ IsOfFour (all_of name (rows_of f))
+no_values f name o found is four =
+    let none : all_of name (rows_of f) ≡ None = sym (raw_values-rows f name) ∙ sym found
+    ∙ ap (option_map (λ (s : Bor (List (Bor (List ℕ)))). map (λ (w : Bor (List ℕ)). w.now) s.now)) is in
+    absurd (true≢false (ap is_some (sym four.are ∙ none)))
+
+-- and neither is another number of them
+pub other_values : (f : Found) (name : List ℕ) (o : Option (Bor (List (Bor (List ℕ))))) (v : Bor (List (Bor (List ℕ))))
+    → option_map (λ s. map (λ w. w.now) s.now) o ≡ option_map raw_values (matched_of f name) → o ≡ Some v → length v.now ≢ 4
+    → ¬ IsOfFour (all_of name (rows_of f))
+other_values f name o v found is other four =
+    let values = all_values f (rows_of f) name o v refl found is in
+    other (sym (length-map v.now (λ (w : Bor (List ℕ)). w.now)) ∙ ap (λ (values : Option (List (List ℕ))). length (unwrap_or values [])) (sym values ∙ four.are))
+
+-- the values of `--header`, if some stand
+pub given_headers : (f : Found) (o : Option (Bor (List (Bor (List ℕ))))) (v : Bor (List (Bor (List ℕ))))
+    → option_map (λ s. map (λ w. w.now) s.now) o ≡ option_map raw_values (matched_of f (codes "header")) → o ≡ Some v → AreHeaders (rows_of f) v.now
+given_headers f o v found is = ap (λ (values : Option (List (List ℕ))). unwrap_or values []) (all_values f (rows_of f) (codes "header") o v refl found is)
+
+-- and if none stand
+pub no_headers : (f : Found) (o : Option (Bor (List (Bor (List ℕ)))))
+    → option_map (λ s. map (λ w. w.now) s.now) o ≡ option_map raw_values (matched_of f (codes "header")) → o ≡ None → AreHeaders (rows_of f) []
+no_headers f o found is =
+    let none : all_of (codes "header") (rows_of f) ≡ None = sym (raw_values-rows f (codes "header")) ∙ sym found
+    ∙ ap (option_map (λ (s : Bor (List (Bor (List ℕ)))). map (λ (w : Bor (List ℕ)). w.now) s.now)) is in
+    ap (λ (values : Option (List (List ℕ))). unwrap_or values []) none
 
 -- the rows of a subcommand that was found, by its name and its rows
 pub entered_rows : {Z : Type 0} (b : Option (Box SubCommand Z)) (name : List ℕ) (rows : List Row)

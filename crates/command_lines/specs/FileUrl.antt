@@ -1,17 +1,27 @@
--- The server of a URL, and why a URL is no place of a file (`http://HOST[:PORT]/NAME`).
-use Rattle.std.specs.Prelude.{◌≡◌, ◌≢◌, ◌⊎◌, ◌==◌, false, if◌then◌else◌, nat_lt, List, [], ◌++◌, drop, length, map, take, ℕ, IsTrue, Option, Some, None, Ok, Err, codes, decimal, eqb, option_and_then, option_map, unwrap_or, ⊤}
+-- What a URL of `http` names (`http://HOST[:PORT]/PATH[?QUERY]`), and why a word names nothing.
+use Rattle.std.specs.Prelude.{◌≡◌, ◌≢◌, ◌⊎◌, ◌==◌, false, if◌then◌else◌, nat_lt, List, [], ◌++◌, drop, length, map, take, ℕ, IsTrue, Option, Some, None, Ok, Err, codes, decimal, eqb, option_and_then, option_map, string_bytes, unwrap_or, ⊤}
 use Rattle.std.specs.Char.{to_ascii_lowercase}
 use Rattle.std.specs.List.{after_first, position_or_len, starts_with}
 use Rattle.url.specs.declared.error.ParseError.TheVariants.{Overflow}
 use Rattle.url.specs.Host.{host_text}
 use Rattle.url.specs.Parser.{parse_url}
 use Rattle.url.specs.Parts.{Parts, has_credentials, nonempty_host}
+use Rattle.command_lines.specs.declared.urls.FileUrl.{FileUrl}
 use Rattle.command_lines.specs.declared.urls.FileUrlError.{FileUrlError}
-use Rattle.command_lines.specs.declared.urls.FileUrlError.TheVariants.{NotAUrl, Tls, Scheme, User, Path, Memory}
+use Rattle.command_lines.specs.declared.urls.FileUrlError.TheVariants.{NotAUrl, Tls, Scheme, User, NoPath, Target, Memory}
 
--- HOST:PORT of a URL, with the port of http where it names none (RFC 9110, section 4.2.1)
-abbrev pub server_text : Parts → List ℕ
-server_text url = unwrap_or (option_map host_text (nonempty_host url)) [] ++ codes ":" ++ decimal (unwrap_or url.port 80)
+-- the host of a URL, with this port after it, if there is one
+abbrev pub host_with : Parts → Option ℕ → List ℕ
+host_with url None = unwrap_or (option_map host_text (nonempty_host url)) []
+host_with url (Some port) = unwrap_or (option_map host_text (nonempty_host url)) [] ++ codes ":" ++ decimal port
+
+abbrev pub after_path : Option (List ℕ) → List ℕ
+after_path None = []
+after_path (Some query) = codes "?" ++ query
+
+-- what is asked for: the path, and the query behind it (RFC 9112, section 3.2.1)
+abbrev pub target_text : Parts → List ℕ
+target_text url = url.path ++ after_path url.query
 
 -- the word begins so, in letters of either case
 abbrev pub BeginsWith : (front word : List ℕ) → Type 0
@@ -33,9 +43,9 @@ behind_slashes text = if starts_with eqb text (codes "//") then Some (drop 2 tex
 abbrev pub name_typed : List ℕ → Option (List ℕ)
 name_typed word = option_and_then (behind_first 47) (option_and_then behind_slashes (behind_first 58 word))
 
--- the path of a URL as it was typed
-abbrev pub path_typed : List ℕ → Option (List ℕ)
-path_typed word = option_map (λ name. codes "/" ++ name) (name_typed word)
+-- path and query of a URL as they were typed
+abbrev pub target_typed : List ℕ → Option (List ℕ)
+target_typed word = option_map (λ name. codes "/" ++ name) (name_typed word)
 
 -- this is wrong with the parts in front of the path
 abbrev pub IsFrontError : Parts → FileUrlError → Type 0
@@ -44,10 +54,30 @@ IsFrontError url Scheme = (url.scheme ≢ codes "http") × (url.scheme ≢ codes
 IsFrontError url User = (url.scheme ≡ codes "http") × IsTrue (has_credentials url)
 IsFrontError url error = ⊥
 
--- This is wrong with the word: it is no URL (or one of 4 GB), or its front is wrong, or the path isn't as it was typed; or memory is wanting.
+-- this is wrong with the path and the query as they were typed
+abbrev pub IsTypedError : (word target : List ℕ) → FileUrlError → Type 0
+IsTypedError word target NoPath = target_typed word ≡ None
+IsTypedError word target Target = target_typed word ≢ Some target
+IsTypedError word target error = ⊥
+
+-- This is wrong with the word: it is no URL (or one of 4 GB), or its front is wrong, or path and query aren't as they were typed; or memory is wanting.
 abbrev pub IsFileUrlError : List ℕ → FileUrlError → Type 0
 IsFileUrlError word Memory = ⊤
 IsFileUrlError word (NotAUrl error) = (parse_url None word ≡ Err error) ⊎ (error ≡ Overflow)
-IsFileUrlError word Path = (url : Parts) × (parse_url None word ≡ Ok url) × (url.scheme ≡ codes "http") × (has_credentials url ≡ false)
-    × (path_typed word ≢ Some url.path)
+IsFileUrlError word NoPath = (url : Parts) × (parse_url None word ≡ Ok url) × (url.scheme ≡ codes "http") × (has_credentials url ≡ false)
+    × (target_typed word ≡ None)
+IsFileUrlError word Target = (url : Parts) × (parse_url None word ≡ Ok url) × (url.scheme ≡ codes "http") × (has_credentials url ≡ false)
+    × (target_typed word ≢ Some (target_text url))
 IsFileUrlError word error = (url : Parts) × (parse_url None word ≡ Ok url) × IsFrontError url error
+
+-- The word names this: the URL Standard's parser takes it, it is of `http` without a user's name or a password, and it was typed as it is
+-- asked for. The server has port 80 where the URL has none (RFC 9110, section 4.2.1).
+pub record Names (word : List ℕ) (named : FileUrl) : Type 0 where
+  pub url : Parts
+  pub parsed : parse_url None word ≡ Ok url
+  pub scheme : url.scheme ≡ codes "http"
+  pub open_to_all : has_credentials url ≡ false
+  pub server : string_bytes named.server ≡ host_with url (Some (unwrap_or url.port 80))
+  pub authority : string_bytes named.authority ≡ host_with url url.port
+  pub target : string_bytes named.target ≡ target_text url
+  pub typed : target_typed word ≡ Some (target_text url)

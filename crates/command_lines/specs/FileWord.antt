@@ -1,9 +1,10 @@
 -- How the words of `cogread` name a file.
-use Rattle.std.specs.Prelude.{◌≡◌, ◌&&◌, ◌||◌, ◌+◌, ◌++◌, ℕ, eqb, nat_lt, if◌then◌else◌, true, false, not, Bool, List, [], ◌∷◌, Option, None, Some, codes, length, slice_get, slice_index_or}
+use Rattle.std.specs.Prelude.{◌≡◌, ◌&&◌, ◌||◌, ◌+◌, ◌++◌, ℕ, zero, suc, eqb, nat_lt, if◌then◌else◌, true, false, not, Bool, List, [], ◌∷◌, Option, None, Some, codes, length, slice_get, slice_index_or}
 use Rattle.std.specs.List.{starts_with}
 use Rattle.std.specs.Str.{bytes_eq}
 use Rattle.command_lines.specs.FileUrl.{IsUrl}
 use Rattle.command_lines.specs.QuickLine.{has_option}
+use Rattle.command_lines.specs.declared.file_words.TheConstants.{BOUNDS_AFTER_THE_FIRST}
 use Rattle.command_lines.specs.declared.file_words.Expected.{Expected}
 use Rattle.command_lines.specs.declared.file_words.Expected.TheVariants.{Any, Value, Place}
 use Rattle.command_lines.specs.declared.file_words.FileWord.{FileWord}
@@ -12,18 +13,24 @@ use Rattle.command_lines.specs.declared.file_words.FileWord.TheVariants.{ServerA
 -- an option whose value is the next word
 abbrev pub is_spaced_option : List ℕ → Bool
 is_spaced_option word = bytes_eq word (codes "--requests") || (bytes_eq word (codes "--blocks") || (bytes_eq word (codes "--ahead")
-    || (bytes_eq word (codes "--output") || (bytes_eq word (codes "--level") || bytes_eq word (codes "--columns")))))
+    || (bytes_eq word (codes "--header") || (bytes_eq word (codes "--output") || (bytes_eq word (codes "--level") || bytes_eq word (codes "--columns"))))))
 
 -- the word stands for itself: it begins with no `-`, or is one
 abbrev pub is_place : Expected → List ℕ → Bool
 is_place Any word = not (starts_with eqb word (codes "-")) || bytes_eq word (codes "-")
-is_place Value word = false
+is_place (Value more) word = false
 is_place Place word = true
+
+-- what is expected after a word that isn't a value: `--bounds` has four values
+abbrev pub expected_after_any : List ℕ → Expected
+expected_after_any word = if bytes_eq word (codes "--") then Place else if bytes_eq word (codes "--bounds") then Value BOUNDS_AFTER_THE_FIRST
+    else if is_spaced_option word then Value 0 else Any
 
 -- what is expected after it
 abbrev pub expected_after : Expected → List ℕ → Expected
-expected_after Any word = if bytes_eq word (codes "--") then Place else if is_spaced_option word then Value else Any
-expected_after Value word = Any
+expected_after Any word = expected_after_any word
+expected_after (Value zero) word = Any
+expected_after (Value (suc more)) word = Value more
 expected_after Place word = Place
 
 -- the indices of the words that stand for themselves, of which the first has the index k
@@ -34,7 +41,7 @@ places expected k (word ∷ words) = (if is_place expected word then k ∷ [] el
 abbrev pub is_command : List ℕ → Bool
 is_command word = bytes_eq word (codes "window") || (bytes_eq word (codes "info") || bytes_eq word (codes "describe"))
 
--- how many words stand for themselves in a whole line of this command
+-- how many words stand for themselves in a whole line of this command: the sides of a window only where no option stands for them
 abbrev pub words_needed : (command : List ℕ) (whole : Bool) → ℕ
 words_needed command whole = if bytes_eq command (codes "window") && not whole then 8 else 4
 
@@ -44,7 +51,7 @@ command_of words = slice_index_or words 1 []
 
 -- the index of the word that stands where the server does, in a line of a command in which words are missing
 abbrev pub single_word : List (List ℕ) → Option ℕ
-single_word words = if is_command (command_of words) && nat_lt (length (places Any 0 words)) (words_needed (command_of words) (has_option (codes "--whole") words))
+single_word words = if is_command (command_of words) && nat_lt (length (places Any 0 words)) (words_needed (command_of words) (has_option (codes "--whole") words || has_option (codes "--bounds") words))
     then slice_get (places Any 0 words) 2 else None
 
 -- Only a URL may be the first word. Otherwise a word may stand for a server and a name where the words of the command don't suffice.

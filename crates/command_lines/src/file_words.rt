@@ -1,7 +1,7 @@
 //! How the words of `cogread` name a file: by a server and a name, or by one word instead of both.
 ghost use Rattle.std.specs.Prelude.{◌≡◌, ◌+◌, ◌++◌, ◌∷◌, ◌<◌, [], if◌then◌else◌, IfOk, OnOk, codes, drop, eqb, length, map, take};
 ghost use Rattle.std.specs.List.{starts_with};
-ghost use Rattle.command_lines.specs.FileWord.{IsFileWord, expected_after, is_command, is_place, is_spaced_option, places, single_word, words_needed};
+ghost use Rattle.command_lines.specs.FileWord.{IsFileWord, expected_after, expected_after_any, is_command, is_place, is_spaced_option, places, single_word, words_needed};
 ghost use Rattle.command_lines.specs.declared.file_words.Expected.TheVariants.{Any};
 
 use crate::quick::has_option;
@@ -14,8 +14,8 @@ use std::convert::AsStr;
 enum Expected {
     /// An option or a positional argument.
     Any,
-    /// The value of the option before it.
-    Value,
+    /// A value of the option before it, and this many values after it.
+    Value(u32),
     /// A positional argument, since `--` stood before it.
     Place,
 }
@@ -31,6 +31,9 @@ pub enum FileWord {
     Single(usize),
 }
 
+/// The number of values of `--bounds` after the first.
+const BOUNDS_AFTER_THE_FIRST: u32 = 3;
+
 /// Returns whether a word is an option whose value is the next word.
 fn is_spaced_option(word: &str) -> bool
     ensures { result ≡ is_spaced_option word.now }
@@ -38,9 +41,25 @@ fn is_spaced_option(word: &str) -> bool
     word == "--requests"
         || word == "--blocks"
         || word == "--ahead"
+        || word == "--header"
         || word == "--output"
         || word == "--level"
         || word == "--columns"
+}
+
+/// Returns what is expected after a word that isn't the value of an option.
+fn expected_after_any(word: &str) -> Expected
+    ensures { result ≡ expected_after_any word.now }
+{
+    if word == "--" {
+        Expected::Place
+    } else if word == "--bounds" {
+        Expected::Value(BOUNDS_AFTER_THE_FIRST)
+    } else if is_spaced_option(word) {
+        Expected::Value(0)
+    } else {
+        Expected::Any
+    }
 }
 
 /// Returns whether a word begins with `-`.
@@ -56,7 +75,7 @@ fn is_place(expected: Expected, word: &str) -> bool
 {
     match expected {
         Expected::Any => !begins_with_dash(word) || word == "-",
-        Expected::Value => false,
+        Expected::Value(_) => false,
         Expected::Place => true,
     }
 }
@@ -66,10 +85,10 @@ fn expected_after(expected: Expected, word: &str) -> Expected
     ensures { result ≡ expected_after expected word.now }
 {
     match expected {
-        Expected::Any if word == "--" => Expected::Place,
-        Expected::Any if is_spaced_option(word) => Expected::Value,
-        Expected::Value => Expected::Any,
-        other => other,
+        Expected::Any => expected_after_any(word),
+        Expected::Value(0) => Expected::Any,
+        Expected::Value(more) => Expected::Value(more - 1),
+        Expected::Place => Expected::Place,
     }
 }
 
@@ -110,7 +129,7 @@ fn is_command(word: &str) -> bool
 }
 
 /// Returns how many positional arguments a line of a command has. They are the program's own name, the command, SERVER, NAME, and the sides
-/// of a window. With `is_whole` there are no sides.
+/// of a window. With `is_whole` there are no sides: `--whole` or `--bounds` stands for them.
 fn words_needed(command: &str, is_whole: bool) -> usize
     ensures { result ≡ words_needed command.now is_whole }
 {
@@ -131,7 +150,8 @@ fn single_word<S: AsStr>(alloc: Global, words: &[S]) -> Result<Option<usize>, Al
     };
     let command = command.as_str();
     let found = places(alloc, words)?;
-    if is_command(command) && found.len() < words_needed(command, has_option(words, "--whole")) {
+    let is_whole = has_option(words, "--whole") || has_option(words, "--bounds");
+    if is_command(command) && found.len() < words_needed(command, is_whole) {
         Ok(found.get(2).copied())
     } else {
         Ok(None)

@@ -9,8 +9,8 @@ Example:
   cogtools cogread http://127.0.0.1:8080/a.tif
   cogtools cogread info 127.0.0.1:8080 a.tif
 
-A URL alone is described. In each command, http://HOST[:PORT]/NAME or the path of a file of the disk may stand for
-SERVER NAME.
+A URL alone is described. In each command, http://HOST[:PORT]/PATH[?QUERY] or the path of a file of the disk may
+stand for SERVER NAME.
 
 A fault of the file is told as `fault N`, or as `fault N TAG` where it is about one field:
    1  Header       No classic TIFF: the byte order or the number 42 is wrong
@@ -36,6 +36,7 @@ Exit status:
   0  The report is written
   1  Standard output or the file of --output can't be written, or out of memory
   2  The words aren't those above, a URL names no file of a server, or `refused N`: 1 the server, 2 the name
+     Or --bounds meets no pixel, or --bounds or --world stand and the file doesn't say where its pixels lie
   3  A fault of the file
   4  `no report` stands after all requests";
 

@@ -21,7 +21,10 @@ pub use names::name_of_path;
 pub use numbers::number_from;
 pub use origins::is_origin;
 pub use quick::{QuickLine, StartLine, start_line};
-pub use read::{AskedWords, ReadLine, WindowWords, read_line};
+pub use read::{
+    AskedWords, BoundsWords, LineWithHeaders, ReadLine, WindowWords, read_line,
+    read_line_with_headers,
+};
 pub use serve::{ServeLine, serve_line};
 pub use urls::{FileUrl, FileUrlError, file_url, is_url};
 pub use world::{WorldLine, world_line};

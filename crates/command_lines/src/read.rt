@@ -1,11 +1,11 @@
 //! The command line of `cogread`.
-ghost use Rattle.std.specs.Prelude.{◌≡◌};
-ghost use Rattle.clap.specs.Words.{found_of, rows_of, subcommand_rows_of};
-ghost use Rattle.command_lines.specs.ReadLine.{AsksDescription, AsksWindow, HasFound, HasLine, HasWindow, word_of};
+ghost use Rattle.std.specs.Prelude.{◌≡◌, IfOk, IfSome, None, codes};
+ghost use Rattle.clap.specs.Words.{all_of, found_of, rows_of, subcommand_rows_of};
+ghost use Rattle.command_lines.specs.ReadLine.{AreHeaders, AsksDescription, AsksWindow, HasBounds, HasFound, HasHeaders, HasLine, HasWindow, IsOfFour, word_of};
 
 use crate::arguments::{add, add_choice, add_flag, choice, flag};
 use crate::help::{READ_NOTES, VERSION};
-use clap::{Arg, ArgMatches, Command, Error};
+use clap::{Arg, ArgAction, ArgMatches, Command, Error};
 use std::alloc::{AllocError, Global};
 use std::convert::AsStr;
 
@@ -24,10 +24,19 @@ pub struct ReadLine<'a> {
     pub close: bool,
     /// The file that the report is written to, instead of standard output.
     pub output: Option<&'a str>,
+    /// Whether a world file is written beside that file.
+    pub world: bool,
     /// Whether a line is printed for each exchange.
     pub verbose: bool,
     /// Whether the progress of the exchanges is drawn.
     pub progress: bool,
+}
+
+/// Holds a line of `cogread`, and the field lines that it adds to requests: the words of `--header`, in their order.
+#[derive(Debug, Drop)]
+pub struct LineWithHeaders<'a> {
+    pub line: ReadLine<'a>,
+    pub headers: Vec<&'a str>,
 }
 
 /// Says what is asked of a file.
@@ -41,6 +50,18 @@ pub enum AskedWords<'a> {
     Window(WindowWords<'a>),
     /// The whole of a level, if one is picked.
     Whole { level: Option<&'a str> },
+    /// The pixels of a level that a rectangle meets.
+    Bounds(BoundsWords<'a>),
+}
+
+/// Holds a rectangle in the file's own coordinates, and the level whose pixels are read, if one is picked.
+#[derive(Clone, Copy, Debug, PartialEq, Eq)]
+pub struct BoundsWords<'a> {
+    pub west: &'a str,
+    pub south: &'a str,
+    pub east: &'a str,
+    pub north: &'a str,
+    pub level: Option<&'a str>,
 }
 
 /// Holds a window: its left column, its top row, its sides, and the level or the columns that pick its level.
@@ -58,22 +79,23 @@ const WINDOW_EXAMPLE: &str = "\
 Example:
   cogtools cogread window 127.0.0.1:8080 a.tif 0 0 256 256 > window.pgm
   cogtools cogread window http://127.0.0.1:8080/a.tif 0 0 256 256 --output window.pgm
+  cogtools cogread window http://127.0.0.1:8080/a.tif --bounds 106.1 47.5 106.3 47.9 --output window.pgm --world
 
-http://HOST[:PORT]/NAME stands for SERVER NAME, and its connection is kept. So does the path of a file of the disk.";
+http://HOST[:PORT]/PATH[?QUERY] stands for SERVER NAME, and its connection is kept. So does the path of a file of the disk.";
 
 const INFO_EXAMPLE: &str = "\
 Example:
   cogtools cogread info 127.0.0.1:8080 a.tif
   cogtools cogread info http://127.0.0.1:8080/a.tif
 
-http://HOST[:PORT]/NAME stands for SERVER NAME, and its connection is kept. So does the path of a file of the disk.";
+http://HOST[:PORT]/PATH[?QUERY] stands for SERVER NAME, and its connection is kept. So does the path of a file of the disk.";
 
 const DESCRIBE_EXAMPLE: &str = "\
 Example:
   cogtools cogread describe 127.0.0.1:8080 a.tif
   cogtools cogread describe http://127.0.0.1:8080/a.tif --json
 
-http://HOST[:PORT]/NAME stands for SERVER NAME, and its connection is kept. So does the path of a file of the disk.";
+http://HOST[:PORT]/PATH[?QUERY] stands for SERVER NAME, and its connection is kept. So does the path of a file of the disk.";
 
 /// Appends an argument, unless making it failed.
 fn try_add<'a>(
@@ -93,7 +115,7 @@ fn add_word<'a>(
     add(arguments, Arg::new(alloc, name).help(help).required(true))
 }
 
-/// Appends a positional argument that is required unless `--whole` stands.
+/// Appends a positional argument that is required unless `--whole` or `--bounds` stands, and refused beside these.
 fn add_side<'a>(
     alloc: Global,
     arguments: &mut Vec<Arg<'a>>,
@@ -101,8 +123,8 @@ fn add_side<'a>(
     help: &'a str,
 ) -> Result<(), AllocError> {
     let side = Arg::new(alloc, name).help(help);
-    let side = side.required_unless_present("whole")?;
-    try_add(arguments, side.conflicts_with("whole"))
+    let side = side.required_unless_present_any(&["whole", "bounds"])?;
+    try_add(arguments, side.conflicts_with_all(&["whole", "bounds"]))
 }
 
 /// Appends an option without a value, which excludes the option `other`.
@@ -136,6 +158,13 @@ fn add_connections<'a>(alloc: Global, arguments: &mut Vec<Arg<'a>>) -> Result<()
     add_flag(alloc, arguments, "close", help)
 }
 
+/// Appends the option that adds a field line to requests. It may stand more than once.
+fn add_header<'a>(alloc: Global, arguments: &mut Vec<Arg<'a>>) -> Result<(), AllocError> {
+    let help = "Adds a field line to each request, as 'NAME: VALUE'; may stand up to 16 times";
+    let header = choice(alloc, "header", "LINE", help).action(ArgAction::Append);
+    add(arguments, header)
+}
+
 /// Appends the options that say where the report goes, and what is printed beside it.
 fn add_telling<'a>(alloc: Global, arguments: &mut Vec<Arg<'a>>) -> Result<(), AllocError> {
     let help =
@@ -158,6 +187,7 @@ fn add_common<'a>(alloc: Global, arguments: &mut Vec<Arg<'a>>) -> Result<(), All
     )?;
     add_amounts(alloc, arguments)?;
     add_connections(alloc, arguments)?;
+    add_header(alloc, arguments)?;
     add_telling(alloc, arguments)
 }
 
@@ -179,6 +209,26 @@ fn add_levels<'a>(alloc: Global, arguments: &mut Vec<Arg<'a>>) -> Result<(), All
     add_choice(alloc, arguments, "columns", "C", help)?;
     let help = "The whole of the level, instead of X Y W H";
     add_flag_without(alloc, arguments, "whole", "columns", help)
+}
+
+/// Appends the option that takes a rectangle. Its four values may begin with `-`, as negative numbers do.
+fn add_bounds<'a>(alloc: Global, arguments: &mut Vec<Arg<'a>>) -> Result<(), AllocError> {
+    let help =
+        "The pixels that a rectangle meets, instead of X Y W H: its sides, as numbers in the file's own coordinates";
+    let bounds = choice(alloc, "bounds", "N", help)
+        .num_args(4)
+        .value_names(&["W", "S", "E", "N"])
+        .allow_hyphen_values(true);
+    let bounds = bounds.conflicts_with("columns")?;
+    try_add(arguments, bounds.conflicts_with("whole"))
+}
+
+/// Appends the option that asks for a world file.
+fn add_world<'a>(alloc: Global, arguments: &mut Vec<Arg<'a>>) -> Result<(), AllocError> {
+    let help =
+        "Writes a world file beside FILE of --output, which places the picture: FILE with the ending .wld";
+    let world = flag(alloc, "world", help).requires_arg("output")?;
+    try_add(arguments, world.conflicts_with("columns"))
 }
 
 /// Appends a command with these arguments.
@@ -207,6 +257,8 @@ fn add_window<'a>(alloc: Global, commands: &mut Vec<Command<'a>>) -> Result<(), 
     add_common(alloc, &mut arguments)?;
     add_sides(alloc, &mut arguments)?;
     add_levels(alloc, &mut arguments)?;
+    add_bounds(alloc, &mut arguments)?;
+    add_world(alloc, &mut arguments)?;
     let about = "Writes a window of a file to standard output, as P5 or P6 (PGM, PPM)";
     add_command(alloc, commands, "window", about, WINDOW_EXAMPLE, arguments)
 }
@@ -274,6 +326,28 @@ fn words_of_window<'a>(matches: &ArgMatches<'a>) -> WindowWords<'a>
     }
 }
 
+/// The number of values of `--bounds`.
+const SIDES: usize = 4;
+
+/// Returns the words of a rectangle, or `None` where there aren't four of them.
+fn words_of_bounds<'a>(matches: &ArgMatches<'a>) -> Option<BoundsWords<'a>>
+    ensures four { IfSome result (HasBounds (rows_of (found_of matches.now))) }
+    ensures none { result ≡ None → ¬ IsOfFour (all_of (codes "bounds") (rows_of (found_of matches.now))) }
+{
+    let values = matches.get_strs("bounds")?;
+    if values.len() != SIDES {
+        return None;
+    }
+    Some(BoundsWords {
+        west: values[0],
+        south: values[1],
+        east: values[2],
+        north: values[3],
+        level: matches.get_str("level"),
+    })
+}
+
+/// Returns what the words of a window ask for: the whole of a level, the pixels that a rectangle meets, or a window in pixels.
 fn window_words<'a>(matches: &ArgMatches<'a>) -> AskedWords<'a>
     ensures { AsksWindow (rows_of (found_of matches.now)) result }
 {
@@ -282,7 +356,10 @@ fn window_words<'a>(matches: &ArgMatches<'a>) -> AskedWords<'a>
             level: matches.get_str("level"),
         };
     }
-    AskedWords::Window(words_of_window(matches))
+    match words_of_bounds(matches) {
+        Some(bounds) => AskedWords::Bounds(bounds),
+        None => AskedWords::Window(words_of_window(matches)),
+    }
 }
 
 fn description_words(matches: &ArgMatches<'_>) -> AskedWords<'static>
@@ -308,6 +385,7 @@ fn line_of<'a>(matches: &ArgMatches<'a>, asked: AskedWords<'a>) -> ReadLine<'a>
         keep: matches.get_flag("keep"),
         close: matches.get_flag("close"),
         output: matches.get_str("output"),
+        world: matches.get_flag("world"),
         verbose: matches.get_flag("verbose"),
         progress: matches.get_flag("progress"),
     }
@@ -325,7 +403,43 @@ fn found_line<'a>(matches: &ArgMatches<'a>) -> ReadLine<'a>
     }
 }
 
-/// Reads the words of `cogread`, of which the first is its own name. Fails where clap refuses them, or where no memory is left.
+/// Returns the values of `--header`, in their order.
+fn headers_of<'a>(alloc: Global, matches: &ArgMatches<'a>) -> Result<Vec<&'a str>, AllocError>
+    ensures { IfOk result (λ headers. AreHeaders (rows_of (found_of matches.now)) headers.items) }
+{
+    let Some(values) = matches.get_strs("header") else {
+        return Ok(Vec::new(alloc));
+    };
+    let headers = Vec::from_slice(alloc, values)?;
+    Ok(headers)
+}
+
+/// Returns the values of `--header` of the subcommand that was found.
+fn found_headers<'a>(alloc: Global, matches: &ArgMatches<'a>) -> Result<Vec<&'a str>, AllocError>
+    ensures { IfOk result (λ headers. HasHeaders (subcommand_rows_of matches.now) (rows_of (found_of matches.now)) headers.items) }
+{
+    match matches.subcommand() {
+        Some((_, found)) => headers_of(alloc, found),
+        None => headers_of(alloc, matches),
+    }
+}
+
+/// Reads the words of `cogread` with the field lines of `--header`. The first word is the program's own name. Fails where clap refuses the
+/// words, or where no memory is left.
+pub fn read_line_with_headers<'a, S: AsStr>(
+    alloc: Global,
+    words: &'a [S],
+) -> Result<LineWithHeaders<'a>, Error> {
+    let command = read_command(alloc)?;
+    let matches = command.try_get_matches_from(words)?;
+    Ok(LineWithHeaders {
+        line: found_line(&matches),
+        headers: found_headers(alloc, &matches)?,
+    })
+}
+
+/// Reads the words of `cogread`, of which the first is its own name. Passes over those of `--header`. Fails where clap refuses them, or
+/// where no memory is left.
 pub fn read_line<'a, S: AsStr>(alloc: Global, words: &'a [S]) -> Result<ReadLine<'a>, Error> {
     let command = read_command(alloc)?;
     let matches = command.try_get_matches_from(words)?;

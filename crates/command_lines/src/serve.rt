@@ -144,7 +144,7 @@ fn add_arguments<'a>(
     let help = "How many connections at once, 1 to 10000 (default 256)";
     add_choice(alloc, arguments, "at-once", "N", help)?;
     let help =
-        "How long a connection without progress keeps its place while another waits, 1 to 3600 (default 60)";
+        "How long a connection without progress keeps its slot while another waits, 1 to 3600 (default 60)";
     add_choice(alloc, arguments, "patience", "SECONDS", help)?;
     let help = "Lets pages of this origin read the files in a browser (`*`: of any origin)";
     add_choice(alloc, arguments, "allow-origin", "ORIGIN", help)?;

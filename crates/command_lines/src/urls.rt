@@ -1,9 +1,9 @@
-//! A server and a name as one word: `http://HOST[:PORT]/NAME`.
-ghost use Rattle.std.specs.Prelude.{◌≡◌, ◌≢◌, ◌++◌, ◌↔◌, false, IfErr, IfOk, IfSome, IsTrue, List, MatchOption, None, Ok, OnOk, Some, codes, string_bytes, ℕ};
+//! A file of a server as one word: `http://HOST[:PORT]/PATH[?QUERY]`.
+ghost use Rattle.std.specs.Prelude.{◌≡◌, ◌≢◌, ◌++◌, ◌↔◌, false, IfErr, IfOk, IsTrue, List, MatchOption, None, Ok, OnOk, Some, codes, string_bytes, ℕ};
 ghost use Rattle.std.specs.Option.{option_copied};
 ghost use Rattle.url.specs.Parser.{parse_url};
 ghost use Rattle.url.specs.Parts.{Parts, has_credentials};
-ghost use Rattle.command_lines.specs.FileUrl.{BeginsWith, IsFrontError, IsFileUrlError, IsUrl, behind_first, behind_slashes, name_typed, path_typed, server_text};
+ghost use Rattle.command_lines.specs.FileUrl.{BeginsWith, IsFrontError, IsFileUrlError, IsTypedError, IsUrl, Names, behind_first, behind_slashes, host_with, name_typed, target_text, target_typed};
 
 use itoa::Buffer;
 use std::alloc::{AllocError, Global};
@@ -13,11 +13,12 @@ use url::{ParseError, Url};
 /// The port of `http` (RFC 9110, section 4.2.1).
 const HTTP_PORT: u16 = 80;
 
-/// Holds a file of a server: the server as `HOST:PORT`, and the file's name as it was typed.
+/// Holds what a URL of `http` names: the server to connect to as `HOST:PORT`, the URL's authority, and its target, the path with the query.
 #[derive(Debug, Drop)]
-pub struct FileUrl<'a> {
+pub struct FileUrl {
     pub server: String,
-    pub name: &'a str,
+    pub authority: String,
+    pub target: String,
 }
 
 /// Says why a URL names no file.
@@ -27,17 +28,20 @@ pub enum FileUrlError {
     #[error("{0}")]
     NotAUrl(ParseError),
     /// The scheme is https.
-    #[error("no TLS is spoken: ask a server in front by http, which asks this one (as nginx with proxy_pass https://..)")]
+    #[error("https isn't spoken: use the Python package, or a reverse proxy (as nginx with proxy_pass https://..)")]
     Tls,
     /// The scheme is neither http nor https.
     #[error("not of http")]
     Scheme,
     /// The URL has a user's name or a password.
-    #[error("a user's name or a password")]
+    #[error("a user's name and a password aren't sent: use --header 'Authorization: Basic ..'")]
     User,
-    /// The path that would be asked for isn't the one that was typed, or it is no slash with a name.
-    #[error("the path isn't /NAME as it is asked for, byte for byte")]
-    Path,
+    /// No path was typed.
+    #[error("no path after the host: give http://HOST/PATH")]
+    NoPath,
+    /// The path and the query that would be asked for aren't those that were typed.
+    #[error("path and query can't be asked for as they are typed: write other characters as %XX, and leave out .. and #")]
+    Target,
     /// No memory was left.
     #[error("out of memory")]
     Memory,
@@ -118,16 +122,18 @@ fn name_of(path: &str) -> Option<&str>
     path.strip_prefix('/')
 }
 
-/// Returns the name in a URL where it was typed just as in `path`, the path of the parsed URL. Else returns `None`.
-fn name_in<'a>(word: &'a str, path: &str) -> Option<&'a str>
-    ensures some { IfSome result (λ name. (path_typed word.now ≡ Some path.now) × (path.now ≡ codes "/" ++ name.now)) }
-    ensures none { result ≡ None → path_typed word.now ≢ Some path.now }
+/// Checks that path and query of a URL were typed just as in `target`. Fails with `NoPath` or `Target` where they weren't.
+fn check_typed(word: &str, target: &str) -> Result<(), FileUrlError>
+    ensures ok { OnOk result (target_typed word.now ≡ Some target.now) }
+    ensures err { IfErr result (IsTypedError word.now target.now) }
 {
-    let name = typed_name(word)?;
-    if name_of(path)? != name {
-        return None;
+    let Some(typed) = typed_name(word) else {
+        return Err(FileUrlError::NoPath);
+    };
+    match name_of(target) {
+        Some(name) if name == typed => Ok(()),
+        _ => Err(FileUrlError::Target),
     }
-    Some(name)
 }
 
 /// Checks the parts of a URL before its path. Fails with `Tls` for https, `Scheme` for another scheme than http, and `User` for a user's
@@ -147,35 +153,46 @@ fn check_front(url: &Url) -> Result<(), FileUrlError>
     Ok(())
 }
 
-/// Returns the server of a URL as `HOST:PORT`.
-fn server_of(alloc: Global, url: &Url) -> Result<String, AllocError>
-    ensures { IfOk result (λ server. string_bytes server ≡ server_text url.now) }
+/// Returns the host of a URL, with `port` after it if there is one.
+fn host_with(alloc: Global, url: &Url, port: Option<u16>) -> Result<String, AllocError>
+    ensures { IfOk result (λ text. string_bytes text ≡ host_with url.now port) }
 {
-    let port = url.port().unwrap_or(HTTP_PORT);
-    let mut digits = Buffer::new();
-    let mut server = String::new(alloc);
-    server.push_str(url.host_str().unwrap_or_default())?;
-    server.push_str(":")?;
-    server.push_str(digits.format(port))?;
-    Ok(server)
+    let mut text = String::from_str(alloc, url.host_str().unwrap_or_default())?;
+    if let Some(port) = port {
+        let mut digits = Buffer::new();
+        text.push_str(":")?;
+        text.push_str(digits.format(port))?;
+    }
+    Ok(text)
 }
 
-/// Returns the file that a URL names. The port is 80 where the URL has none. Fails with `Path` where the path would be asked for otherwise
-/// than it was typed, as one with `..` or a query. Fails with `NotAUrl`, `Tls`, `Scheme` or `User` where the word is no URL of that kind,
-/// and with `Memory` where no memory is left.
-pub fn file_url(alloc: Global, word: &str) -> Result<FileUrl<'_>, FileUrlError>
-    ensures ok { IfOk result (λ place. (url : Parts) × (parse_url None word.now ≡ Ok url) × (url.scheme ≡ codes "http")
-        × (has_credentials url ≡ false) × (string_bytes place.server ≡ server_text url)
-        × (path_typed word.now ≡ Some url.path) × (url.path ≡ codes "/" ++ place.name.now)) }
+/// Returns the path of a URL, with its query after it if there is one.
+fn target_of(alloc: Global, url: &Url) -> Result<String, AllocError>
+    ensures { IfOk result (λ target. string_bytes target ≡ target_text url.now) }
+{
+    let mut target = String::from_str(alloc, url.path())?;
+    if let Some(query) = url.query() {
+        target.push_str("?")?;
+        target.push_str(query)?;
+    }
+    Ok(target)
+}
+
+/// Returns what a URL names. The server's port is 80 where the URL has none, and the authority has none then (RFC 9110, section 7.2). Fails
+/// with `NoPath` where no path was typed, and with `Target` where path and query would be asked for otherwise than they were typed, as with
+/// `..` or `#`. Fails with `NotAUrl`, `Tls`, `Scheme` or `User` where the word is no URL of that kind, and with `Memory` where no memory is
+/// left.
+pub fn file_url(alloc: Global, word: &str) -> Result<FileUrl, FileUrlError>
+    ensures ok { IfOk result (Names word.now) }
     ensures err { IfErr result (IsFileUrlError word.now) }
 {
     let url = parse(alloc, word)?;
     check_front(&url)?;
-    match name_in(word, url.path()) {
-        Some(name) => Ok(FileUrl {
-            server: server_of(alloc, &url)?,
-            name,
-        }),
-        None => Err(FileUrlError::Path),
-    }
+    let target = target_of(alloc, &url)?;
+    check_typed(word, target.as_str())?;
+    Ok(FileUrl {
+        server: host_with(alloc, &url, Some(url.port().unwrap_or(HTTP_PORT)))?,
+        authority: host_with(alloc, &url, url.port())?,
+        target,
+    })
 }

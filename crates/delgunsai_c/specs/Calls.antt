@@ -1,17 +1,21 @@
 -- What a call from C does to the client of its handle, and to the caller's room.
-use Rattle.std.specs.Prelude.{◌≡◌, ◌⊎◌, ℕ, ℤ, pos, List, ◌++◌, Option, Some, None, IsSome, slice_get}
+use Rattle.std.specs.Prelude.{◌≡◌, ◌⊎◌, ℕ, ℤ, pos, List, [], ◌++◌, Option, Some, None, IsSome, slice_get}
 use Rattle.cog_client.specs.declared.error.ClientError.{ClientError}
-use Rattle.cog_client.specs.Calls.{Starts}
+use Rattle.cog_client.specs.declared.error.UrlError.{UrlError}
+use Rattle.http_fields.specs.declared.request_fields.FieldError.{FieldError}
+use Rattle.http_fields.specs.FieldRefusal.{IsFieldRefusal, field_refusal}
+use Rattle.http_fields.specs.Text.{FieldLine}
+use Rattle.cog_client.specs.Calls.{Starts, StartsByUrl}
 use Rattle.cog_client.specs.Check.{check_of}
 use Rattle.cog_client.specs.PartialAnswer.{IsBounded}
-use Rattle.cog_client.specs.Client.{ClientState, IsClientRefusal, client_refusal, feed_of, query_of, report_of, tag_of}
+use Rattle.cog_client.specs.Client.{ClientState, IsClientRefusal, IsUrlRefusal, client_refusal, feed_of, fields_of, query_of, report_of, tag_of}
 use Rattle.cog_client.specs.FedClient.{Fed}
 use Rattle.cog_client.specs.AnswerPhase.{rest_dropped}
-use Rattle.cog_client.specs.Keeps.{RequestsKeeping, StopsAsking, StopsDelivery}
+use Rattle.cog_client.specs.Keeps.{AddsField, RequestsKeeping, StopsAsking, StopsDelivery}
 use Rattle.cog_client.specs.Early.{AreEarlyRequests, AsksNothingEarly}
 use Rattle.delgunsai_c.specs.declared.failure.Failure.{Failure}
 use Rattle.delgunsai_c.specs.declared.failure.Failure.TheVariants.{Memory, NoClient}
-use Rattle.delgunsai_c.specs.Failure.{code_of, failure_in}
+use Rattle.delgunsai_c.specs.Failure.{code_of, failure_in, failure_of_field, failure_of_url}
 use Rattle.delgunsai_c.specs.Laid.{Lays}
 
 -- There was a client, which did this.
@@ -72,6 +76,42 @@ pub record Made (host name : List ℕ) (blocks : ℕ) (new : Option ClientState)
 -- A client is made, in the place of the one before, or it is refused and the one before stays.
 abbrev pub News : List ℕ → List ℕ → ℕ → Option ClientState → Option ClientState → ℤ → Type 0
 News host name blocks old new told = Made host name blocks new told ⊎ Refused host name blocks old new told
+
+-- ---- a URL, and fields
+
+-- the first that stands against it, or want of memory where nothing else does
+pub record IsUrlFailure (authority target : List ℕ) (blocks : ℕ) (failure : Failure) : Type 0 where
+  pub error : UrlError
+  pub is : failure ≡ failure_of_url error
+  pub first : IsUrlRefusal authority target blocks error
+
+pub record RefusedUrl (authority target : List ℕ) (blocks : ℕ) (old new : Option ClientState) (told : ℤ) : Type 0 where
+  pub failure : Failure
+  pub why : IsUrlFailure authority target blocks failure
+  pub says : told ≡ code_of failure
+  pub same : new ≡ old
+
+pub record MadeByUrl (authority target : List ℕ) (blocks : ℕ) (new : Option ClientState) (told : ℤ) : Type 0 where
+  pub after : ClientState
+  pub is : new ≡ Some after
+  pub starts : StartsByUrl authority target [] blocks after
+  pub says : told ≡ pos 0
+
+-- A client of a URL is made, in the place of the one before, or it is refused and the one before stays.
+abbrev pub NewsOfUrl : List ℕ → List ℕ → ℕ → Option ClientState → Option ClientState → ℤ → Type 0
+NewsOfUrl authority target blocks old new told =
+    MadeByUrl authority target blocks new told ⊎ RefusedUrl authority target blocks old new told
+
+-- The line isn't added, for this reason, and the client stays as it was.
+pub record RefusesField (l : FieldLine) (told : ℤ) (old new : ClientState) : Type 0 where
+  pub error : FieldError
+  pub first : IsFieldRefusal (field_refusal (fields_of old) l) error
+  pub says : told ≡ code_of (failure_of_field error)
+  pub stays : new ≡ old
+
+-- It is added, or it isn't.
+abbrev pub AddsOr : FieldLine → ℤ → ClientState → ClientState → Type 0
+AddsOr l told old new = Done (AddsField l old new) told ⊎ RefusesField l told old new
 
 -- ---- request
 

@@ -1,14 +1,14 @@
 //! Calls that make, clear and free a client.
-ghost use Rattle.std.specs.Prelude.{◌≡◌, None, IfErr, IfOk, IfSome};
-ghost use Rattle.delgunsai_c.specs.Calls.{Calls, Done, IsRefusal, News};
+ghost use Rattle.std.specs.Prelude.{◌≡◌, [], None, IfErr, IfOk, IfSome};
+ghost use Rattle.delgunsai_c.specs.Calls.{AddsOr, Calls, Done, IsRefusal, IsUrlFailure, News, NewsOfUrl};
 ghost use Rattle.delgunsai_c.specs.Handle.{client_of};
-ghost use Rattle.cog_client.specs.Calls.{Forgets, Starts};
+ghost use Rattle.cog_client.specs.Calls.{Forgets, Starts, StartsByUrl};
 
-use crate::failure::{Failure, failure_of};
+use crate::failure::{Failure, failure_of, failure_of_field, failure_of_url};
 use crate::handle::Handle;
 use crate::held::Held;
 use client_dialogue::Dialogue;
-use cog_client::Client;
+use cog_client::{Client, RequestFields};
 use std::alloc::Global;
 
 /// The most exchanges that a query may take, unless the caller sets another number.
@@ -65,6 +65,69 @@ pub extern "C" fn cog_client_new(
         }
         Err(failure) => failure.code(),
     }
+}
+
+/// Makes a client of a URL in the heap. Fails with the first of `Authority`, `Target` and `Blocks` that applies, or with `Memory`.
+fn boxed_by_url(
+    alloc: Global,
+    authority: &[u8],
+    target: &[u8],
+    blocks: u32,
+) -> Result<Box<Held>, Failure>
+    ensures made { IfOk result (λ b. StartsByUrl authority.now target.now [] blocks b.value.client) }
+    ensures refused { IfErr result (IsUrlFailure authority.now target.now blocks) }
+{
+    match Client::by_url(alloc, authority, target, RequestFields::new(alloc), blocks) {
+        Err(error) => Err(failure_of_url(error)),
+        Ok(client) => match in_heap(alloc, client) {
+            Some(client) => Ok(client),
+            None => Err(Failure::Memory),
+        },
+    }
+}
+
+/// Makes a client of a URL in a handle, and frees the one before. `authority` is host and port, and `target` path and query. Returns 0,
+/// `DELGUNSAI_AUTHORITY`, `DELGUNSAI_TARGET`, `COG_BLOCKS` or `COG_MEMORY`. Unless it is 0, the handle stays as it was.
+#[unsafe(no_mangle)]
+pub extern "C" fn delgunsai_client_by_url(
+    alloc: Global,
+    authority: &[u8],
+    target: &[u8],
+    blocks: u32,
+    client: &mut Handle,
+) -> i32
+    ensures { NewsOfUrl authority.now target.now blocks (client_of client.old) (client_of client.new) result }
+{
+    match boxed_by_url(alloc, authority, target, blocks) {
+        Ok(made) => {
+            let _before = client.take(alloc);
+            client.put(made);
+            0
+        }
+        Err(failure) => failure.code(),
+    }
+}
+
+/// Adds a field to each request and check from now on, after those before. Returns 0, one of `DELGUNSAI_FIELD_..`, `COG_MEMORY` or
+/// `COG_NO_CLIENT`. Unless it is 0, the client stays as it was.
+#[unsafe(no_mangle)]
+pub extern "C" fn delgunsai_client_add_field(
+    alloc: Global,
+    client: &mut Handle,
+    name: &[u8],
+    value: &[u8],
+) -> i32
+    ensures { Calls (AddsOr (name.now, value.now) result) (client_of client.old) (client_of client.new) result }
+{
+    let Some(mut held) = client.take(alloc) else {
+        return Failure::NoClient.code();
+    };
+    let code = match held.client.add_field(name, value) {
+        Ok(()) => 0,
+        Err(error) => failure_of_field(error).code(),
+    };
+    client.put(held);
+    code
 }
 
 /// Drops the report and all that is known of the file. Host, name, query, and how the client asks, stay. Returns 0 or `COG_NO_CLIENT`.

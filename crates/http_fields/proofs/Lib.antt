@@ -7,5 +7,7 @@ pub mod DecimalLemmas
 pub mod TagLemmas
 pub mod MatchLemmas
 pub mod LineLemmas
+pub mod RequestLemmas
+pub mod KeptLemmas
 pub mod ListLemmas
 pub mod CommaLemmas

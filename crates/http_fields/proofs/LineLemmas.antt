@@ -12,7 +12,7 @@ print_field-is : (l : FieldLine) → print_field (field_of l) ≡ line l
 unfolding line
 print_field-is l = simp append_assoc
 
-length-line : (l : FieldLine) → length (line l) ≡ length l.0 + length l.1 + 4
+pub length-line : (l : FieldLine) → length (line l) ≡ length l.0 + length l.1 + 4
 unfolding line
 length-line l = simp length-append (omega arith)
 

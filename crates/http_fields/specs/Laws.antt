@@ -1,11 +1,11 @@
 -- Laws of these definitions, each in the contract of a function of `laws`.
-use Rattle.std.specs.Prelude.{◌≡◌, ◌<◌, ◌^◌, ◌+◌, ◌↔◌, ℕ, ◌⊎◌, Bool, false, IsTrue, List, [], ◌∷◌, ◌++◌, length, reverse, codes, decimal, Some, map, All}
+use Rattle.std.specs.Prelude.{◌≡◌, ◌<◌, ◌^◌, ◌+◌, ◌↔◌, ℕ, ◌⊎◌, Bool, false, IsTrue, List, [], ◌∷◌, ◌++◌, length, drop, reverse, codes, decimal, Some, map, All}
 use Rattle.std.specs.List.{join_with_byte}
-use Rattle.std.specs.Str.{all_ascii_digits, bytes_eq}
+use Rattle.std.specs.Str.{IsAscii, all_ascii_digits, bytes_eq}
 use Rattle.std.specs.Str.Iter.{LacksByte}
 use Rattle.httparse.specs.Grammar.{AllPass, is_uri_byte, is_value_byte, skip_ows, trim_ows, IsField, print_field}
 use Rattle.httparse.specs.Spans.{name_and_value}
-use Rattle.http_fields.specs.declared.limits.TheConstants.{NAME_LIMIT, HOST_LIMIT, FIELD_LIMIT, TAG_LIMIT, HEAD_LIMIT, MESSAGE_LIMIT, ANSWERS_LIMIT}
+use Rattle.http_fields.specs.declared.limits.TheConstants.{NAME_LIMIT, HOST_LIMIT, TARGET_LIMIT, AUTHORITY_LIMIT, EXTRA_LINES_LIMIT, EXTRA_BYTES_LIMIT, FIELD_LIMIT, TAG_LIMIT, HEAD_LIMIT, MESSAGE_LIMIT, ANSWERS_LIMIT}
 use Rattle.http_fields.specs.Tag.{is_tag_byte, is_opaque_tag, is_weak_tag, is_kept_tag}
 use Rattle.http_fields.specs.Digits.{number, number_64}
 use Rattle.http_fields.specs.Members.{members}
@@ -13,11 +13,18 @@ use Rattle.http_fields.specs.Conditional.{any_match}
 use Rattle.http_fields.specs.Lists.{Element, HasMatch, IsTagList}
 use Rattle.http_fields.specs.Text.{FieldLine, line}
 use Rattle.http_fields.specs.Plain.{field_of, IsPlain}
+use Rattle.http_fields.specs.Names.{is_host, is_name}
+use Rattle.http_fields.specs.Target.{is_authority_text, is_target}
+use Rattle.http_fields.specs.RequestFields.{is_extra}
 
 -- the limits, in numbers
 pub record LimitsAre : Type 0 where
   pub name : NAME_LIMIT ≡ 200
   pub host : HOST_LIMIT ≡ 64
+  pub target : TARGET_LIMIT ≡ 2048
+  pub authority : AUTHORITY_LIMIT ≡ 255
+  pub extra_lines : EXTRA_LINES_LIMIT ≡ 16
+  pub extra_bytes : EXTRA_BYTES_LIMIT ≡ 1024
   pub fields : FIELD_LIMIT ≡ 32
   pub tag : TAG_LIMIT ≡ 64
   pub head : HEAD_LIMIT ≡ 4096
@@ -78,6 +85,17 @@ pub record VisibleValues : Type 0 where
   pub back : (before v : List ℕ) → AllPass is_uri_byte v → 0 < length v
       → skip_ows (reverse (before ++ v)) ≡ reverse (before ++ v)
 
+-- what a request is written with, beside tags and numbers, may stand in its head: hosts and names of plain clients are as those of a
+-- URL, which have visible characters of ASCII alone, and lines that are added are plain
+pub record RequestsMayStand : Type 0 where
+  pub host : (host : List ℕ) → IsTrue (is_host host) → IsTrue (is_authority_text host)
+  pub name : (name : List ℕ) → IsTrue (is_name name) → IsTrue (is_target (47 ∷ name))
+  pub authority : (text : List ℕ) → IsTrue (is_authority_text text) → AllPass is_uri_byte text
+  pub target : (text : List ℕ) → IsTrue (is_target text) → AllPass is_uri_byte text
+  pub ascii : (text : List ℕ) → IsTrue (is_target text) → IsAscii text
+  pub slash : (text : List ℕ) → IsTrue (is_target text) → text ≡ 47 ∷ drop 1 text
+  pub line : (l : FieldLine) → IsTrue (is_extra l) → IsPlain l
+
 pub record PartsAreRead : Type 0 where
   pub quoted : TagsAreQuoted
   pub tags : TagsAreVisible
@@ -87,3 +105,4 @@ pub record PartsAreRead : Type 0 where
   pub decimals : DecimalsAreRead
   pub lines : LinesAreFields
   pub values : VisibleValues
+  pub requests : RequestsMayStand

@@ -1,6 +1,10 @@
 pub mod Tag
 pub mod Names
+pub mod Target
 pub mod Text
+pub mod RequestFields
+pub mod FieldRefusal
+pub mod KeptFields
 pub mod Digits
 pub mod Fields
 pub mod FieldLines

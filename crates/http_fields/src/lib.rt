@@ -14,4 +14,6 @@ pub mod line;
 mod members;
 pub mod names;
 pub mod numeral;
+pub mod request_fields;
 pub mod tag;
+pub mod targets;

@@ -21,3 +21,15 @@ pub const MESSAGE_LIMIT: usize = 8192;
 
 /// The most answers on one connection.
 pub const ANSWERS_LIMIT: usize = 100;
+
+/// The most bytes of the target of a request.
+pub const TARGET_LIMIT: usize = 2048;
+
+/// The most bytes of the host and the port of a URL.
+pub const AUTHORITY_LIMIT: usize = 255;
+
+/// The most field lines that a caller adds to a request.
+pub const EXTRA_LINES_LIMIT: usize = 16;
+
+/// The most bytes of all these lines.
+pub const EXTRA_BYTES_LIMIT: usize = 1024;

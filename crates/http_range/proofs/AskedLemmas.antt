@@ -1,7 +1,9 @@
 -- What a server answers to a client's request.
-use Rattle.std.proofs.Common.{◌≡◌, ℕ, ◌-◌, ◌^◌, ◌<◌, ◌≤◌, min, Bool, true, false, cond, ◌||◌, List, [], ◌∷◌, ◌++◌, length, drop, suc, refl, sym, ap, ◌∙◌, subst, append-nil, Option, Some, None}
+use Rattle.std.proofs.Common.{◌≡◌, ℕ, ◌-◌, ◌^◌, ◌<◌, ◌≤◌, min, Bool, true, false, cond, ◌||◌, List, [], ◌∷◌, ◌++◌, length, drop, suc, refl, sym, ap, ◌∙◌, subst, append-nil, codes, Option, Some, None}
 use Rattle.std.specs.Prelude.{◌↔◌, option_and_then}
 use Rattle.http_fields.specs.Members.{members}
+use Rattle.http_fields.specs.Text.{FieldLine, closing}
+use Rattle.http_fields.specs.RequestFields.{AreExtra}
 use Rattle.std.proofs.Math.Dec.{ltb}
 use Rattle.std.specs.Str.{bytes_eq}
 use Rattle.httparse.specs.Grammar.{trim_ows}
@@ -9,7 +11,7 @@ use Rattle.http_range.specs.declared.range.RangeSpec.{RangeSpec}
 use Rattle.http_range.specs.declared.range.Resolved.TheVariants.{Whole, Part, Unsatisfiable}
 use Rattle.http_range.specs.declared.reply.Reply.TheVariants.{R200, R304, R404, R416}
 use Rattle.http_range.specs.Range.{range_spec, resolved_or}
-use Rattle.http_range.specs.Ask.{range_value, asked_request, request_by, CanAsk, CanCheck, checked_request, check_text}
+use Rattle.http_range.specs.Ask.{range_value, if_range, asked_request, request_with, CanAsk, CanCheck, checked_request, check_with}
 use Rattle.http_range.specs.Book.{Publication, Catalogue, published}
 use Rattle.http_range.specs.Response.{Response, ending, refused, serve_part, serve_file, answer_by, is_current, response_to_client, response_to_check, IsAnswer, with_tag}
 use Rattle.http_range.specs.Stream.{AreAnswers, IsAnswered, IsFirstMessage}
@@ -19,6 +21,7 @@ use Rattle.http_range.specs.Laws.{ClientsAreAnswered, RequestsAreAnswered, Check
 use Rattle.http_fields.specs.Laws.{PartsAreRead}
 use Rattle.http_range.proofs.RangeLemmas.{range_spec-range_value}
 use Rattle.http_range.proofs.RequestLemmas.{asked_first, asked_read, asked_has, checked_first, checked_read, checked_has}
+use Rattle.http_range.proofs.ExtraLemmas.{alike, answer_alike}
 use Rattle.http_range.proofs.MessageLemmas.{no_message, one_message}
 use Rattle.http_range.proofs.StreamLemmas.{closes_apart, same_response, streams_answered_once}
 use Rattle.std.proofs.Math.Seq.{drop-append_seam}
@@ -69,7 +72,7 @@ module _ (laws : PartsAreRead) where
 
   module _ (host name : List ℕ) (first last : ℕ) (ordered : first ≤ last) (small : last < 2 ^ 64) where
     by_file : (close : Bool) (tag : Option (List ℕ)) (o : Option Publication)
-        → serve_file o (asked_request close host name first last tag) ≡ answer_to close o first last tag
+        → serve_file o (asked_request close host name [] first last tag) ≡ answer_to close o first last tag
     unfolding members trim_ows
     by_file true None None = refl
     by_file false None None = refl
@@ -81,29 +84,33 @@ module _ (laws : PartsAreRead) where
     by_file false (Some tag) (Some p) = asked_if false p first last ordered small (bytes_eq tag p.tag)
 
     by_rows : (catalogue : Catalogue) (close : Bool) (tag : Option (List ℕ))
-        → answer_by catalogue (Some (asked_request close host name first last tag)) ≡ answer_to close (published name catalogue) first last tag
+        → answer_by catalogue (Some (asked_request close host name [] first last tag)) ≡ answer_to close (published name catalogue) first last tag
     by_rows catalogue true None = by_file true None (published name catalogue)
     by_rows catalogue false None = by_file false None (published name catalogue)
     by_rows catalogue true (Some tag) = by_file true (Some tag) (published name catalogue)
     by_rows catalogue false (Some tag) = by_file false (Some tag) (published name catalogue)
 
-    pub asked_answer : (catalogue : Catalogue) (close : Bool) (tag : Option (List ℕ))
-        → answer_by catalogue (Some (asked_request close host name first last tag))
+    pub asked_answer : (catalogue : Catalogue) (close : Bool) (extra : List FieldLine) (tag : Option (List ℕ)) → AreExtra extra
+        → answer_by catalogue (Some (asked_request close host name extra first last tag))
         ≡ ending close (response_to_client (published name catalogue) first last tag)
-    asked_answer catalogue close tag = by_rows catalogue close tag ∙ answer_ends close (published name catalogue) first last tag
+    asked_answer catalogue close extra tag adds =
+        let before : List FieldLine = (codes "Host", host) ∷ (codes "Range", range_value first last) ∷ if_range tag in
+        answer_alike (codes "GET") (codes "/" ++ name) (before ++ (extra ++ closing close)) (before ++ closing close)
+        (alike before extra (closing close) adds.each) catalogue
+        ∙ by_rows catalogue close tag ∙ answer_ends close (published name catalogue) first last tag
 
   pub requests_answered : RequestsAreAnswered
-  requests_answered catalogue close host name more first last tag response can ordered =
-      let text = request_by close host name first last tag ++ more in
-      let answer = asked_answer host name first last ordered can.to_last catalogue close tag in (
-        λ is. is.2 ∙ ap (answer_by catalogue) (asked_read laws close host name first last tag more can text refl is.0 is.1) ∙ answer,
-        λ is. (Some (asked_request close host name first last tag), asked_has laws close host name first last tag more can text refl, is ∙ sym answer),
+  requests_answered catalogue close host name extra more first last tag response can ordered =
+      let text = request_with close host name extra first last tag ++ more in
+      let answer = asked_answer host name first last ordered can.to_last catalogue close extra tag can.adds in (
+        λ is. is.2 ∙ ap (answer_by catalogue) (asked_read laws close host name extra first last tag more can text refl is.0 is.1) ∙ answer,
+        λ is. (Some (asked_request close host name extra first last tag), asked_has laws close host name extra first last tag more can text refl, is ∙ sym answer),
       )
 
   -- ---- the check
 
-  module _ (host name tag : List ℕ) (can : CanCheck host name tag) where
-    check_file : (o : Option Publication) → serve_file o (checked_request host name tag) ≡ response_to_check o tag
+  module _ (host name : List ℕ) (extra : List FieldLine) (tag : List ℕ) (can : CanCheck host name extra tag) where
+    check_file : (o : Option Publication) → serve_file o (checked_request host name [] tag) ≡ response_to_check o tag
     unfolding members trim_ows
     check_file None = refl
     check_file (Some p) =
@@ -115,15 +122,19 @@ module _ (laws : PartsAreRead) where
         by_test false = refl
 
     checked_answer : (catalogue : Catalogue)
-        → answer_by catalogue (Some (checked_request host name tag)) ≡ response_to_check (published name catalogue) tag
-    checked_answer catalogue = check_file (published name catalogue)
+        → answer_by catalogue (Some (checked_request host name extra tag)) ≡ response_to_check (published name catalogue) tag
+    checked_answer catalogue =
+        let before : List FieldLine = (codes "Host", host) ∷ (codes "If-None-Match", tag) ∷ [] in
+        answer_alike (codes "HEAD") (codes "/" ++ name) (before ++ (extra ++ closing true)) (before ++ closing true)
+        (alike before extra (closing true) can.adds.each) catalogue
+        ∙ check_file (published name catalogue)
 
   pub checks_answered : ChecksAreAnswered
-  checks_answered catalogue host name tag more response can =
-      let text = check_text host name tag ++ more in
-      let answer = checked_answer host name tag can catalogue in (
-        λ is. is.2 ∙ ap (answer_by catalogue) (checked_read laws host name tag more can text refl is.0 is.1) ∙ answer,
-        λ is. (Some (checked_request host name tag), checked_has laws host name tag more can text refl, is ∙ sym answer),
+  checks_answered catalogue host name extra tag more response can =
+      let text = check_with host name extra tag ++ more in
+      let answer = checked_answer host name extra tag can catalogue in (
+        λ is. is.2 ∙ ap (answer_by catalogue) (checked_read laws host name extra tag more can text refl is.0 is.1) ∙ answer,
+        λ is. (Some (checked_request host name extra tag), checked_has laws host name extra tag more can text refl, is ∙ sym answer),
       )
 
   -- ---- at the front of a stream
@@ -155,28 +166,28 @@ module _ (laws : PartsAreRead) where
       by_test false = refl
 
   pub clients_answered : ClientsAreAnswered
-  clients_answered catalogue host name more first last tag response can ordered =
-      subst (λ (s : Response). IsAnswer catalogue (request_by true host name first last tag ++ more) response ↔ (response ≡ s))
+  clients_answered catalogue host name extra more first last tag response can ordered =
+      subst (λ (s : Response). IsAnswer catalogue (request_with true host name extra first last tag ++ more) response ↔ (response ≡ s))
       (client_ends (published name catalogue) first last tag)
-      (requests_answered catalogue true host name more first last tag response can ordered)
+      (requests_answered catalogue true host name extra more first last tag response can ordered)
 
   -- a client's request as a message of its own
-  asked_alone : (catalogue : Catalogue) (close : Bool) (host name : List ℕ) (first last : ℕ) (tag : Option (List ℕ))
-      → CanAsk host name first last tag → first ≤ last
-      → IsAnswer catalogue (request_by close host name first last tag) (ending close (response_to_client (published name catalogue) first last tag))
-  asked_alone catalogue close host name first last tag can ordered =
-      let text = request_by close host name first last tag in
+  asked_alone : (catalogue : Catalogue) (close : Bool) (host name : List ℕ) (extra : List FieldLine) (first last : ℕ) (tag : Option (List ℕ))
+      → CanAsk host name extra first last tag → first ≤ last
+      → IsAnswer catalogue (request_with close host name extra first last tag) (ending close (response_to_client (published name catalogue) first last tag))
+  asked_alone catalogue close host name extra first last tag can ordered =
+      let text = request_with close host name extra first last tag in
       let r = ending close (response_to_client (published name catalogue) first last tag) in
       subst (λ (t : List ℕ). IsAnswer catalogue t r) (append-nil text)
-      ((requests_answered catalogue close host name [] first last tag r can ordered).1 refl)
+      ((requests_answered catalogue close host name extra [] first last tag r can ordered).1 refl)
 
   pub clients_served : ClientsAreServed
-  clients_served catalogue host name more first last tag rs can ordered =
-      let text = request_by true host name first last tag in
+  clients_served catalogue host name extra more first last tag rs can ordered =
+      let text = request_with true host name extra first last tag in
       let served = response_to_client (published name catalogue) first last tag in
       let r = ending true served in
-      let one = alone catalogue (text ++ more) text r rs (asked_first laws true host name first last tag more can)
-      (asked_alone catalogue true host name first last tag can ordered) refl in
+      let one = alone catalogue (text ++ more) text r rs (asked_first laws true host name extra first last tag more can)
+      (asked_alone catalogue true host name extra first last tag can ordered) refl in
       subst (λ (s : Response). IsAnswered catalogue (text ++ more) rs ↔ (rs ≡ s ∷ []))
       (client_ends (published name catalogue) first last tag) one
 
@@ -207,14 +218,14 @@ module _ (laws : PartsAreRead) where
           )
 
   pub open_clients_served : OpenClientsAreServed
-  open_clients_served catalogue n host name more first last tag rs can ordered =
-      followed catalogue n (request_by false host name first last tag) more (ending false (response_to_client (published name catalogue) first last tag)) rs
-      (asked_first laws false host name first last tag more can) (asked_alone catalogue false host name first last tag can ordered) refl
+  open_clients_served catalogue n host name extra more first last tag rs can ordered =
+      followed catalogue n (request_with false host name extra first last tag) more (ending false (response_to_client (published name catalogue) first last tag)) rs
+      (asked_first laws false host name extra first last tag more can) (asked_alone catalogue false host name extra first last tag can ordered) refl
 
   pub checks_served : ChecksAreServed
-  checks_served catalogue host name tag more rs can =
-      let text = check_text host name tag in
+  checks_served catalogue host name extra tag more rs can =
+      let text = check_with host name extra tag in
       let r = response_to_check (published name catalogue) tag in
       let is : IsAnswer catalogue text r =
-      subst (λ (t : List ℕ). IsAnswer catalogue t r) (append-nil text) ((checks_answered catalogue host name tag [] r can).1 refl) in
-      alone catalogue (text ++ more) text r rs (checked_first laws host name tag more can) is (check_closes (published name catalogue) tag)
+      subst (λ (t : List ℕ). IsAnswer catalogue t r) (append-nil text) ((checks_answered catalogue host name extra tag [] r can).1 refl) in
+      alone catalogue (text ++ more) text r rs (checked_first laws host name extra tag more can) is (check_closes (published name catalogue) tag)

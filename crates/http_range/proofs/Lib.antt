@@ -6,7 +6,9 @@ pub mod PlaceLemmas
 pub mod ReplyLemmas
 pub mod RoundTrip
 pub mod RangeLemmas
+pub mod LengthLemmas
 pub mod RequestLemmas
+pub mod ExtraLemmas
 pub mod RangeForms
 pub mod BookLemmas
 pub mod ResponseLemmas

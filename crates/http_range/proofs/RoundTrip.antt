@@ -19,7 +19,7 @@ use Rattle.http_range.specs.Head.{SeenHead, seen_head, FindsHead}
 use Rattle.http_range.specs.Announced.{Announced, piece_behind}
 use Rattle.http_range.specs.Piece.{SeenPiece, ◌>>=◌}
 use Rattle.http_range.specs.Reading.{announced_of, reply_seen, front_seen, reply_announced, front_announced, check_tag, tag_seen, front_tag, ReadsHead, ReadsAnswer, ReadsCheck}
-use Rattle.http_range.proofs.TextLemmas.{ArePlain, head_by, status_by, head_with-is, head_is, length-fields, length-head_with, seen-are}
+use Rattle.http_range.proofs.TextLemmas.{ArePlain, are_lines, head_by, status_by, head_with-is, head_is, length-fields, length-head_with, seen-are}
 use Rattle.http_fields.specs.Laws.{PartsAreRead}
 use Rattle.http_range.proofs.FrontLemmas.{found_whole, found_cut, whole_head}
 use Rattle.http_range.proofs.ReplyLemmas.{fields_plain, closing_plain, plain-append, kept_read, reads_200, reads_206}
@@ -113,7 +113,7 @@ module _ (laws : PartsAreRead) where
     -- what is seen of the head
     seen_is : seen_head head ≡ record { status = status_of reply; minor = 1; fields = lines; size = length (head_text reply close) }
     seen_is =
-        λ i. record { status = (status reply).code i; minor = 1; fields = seen-are laws lines plain i; size = length (sym printed i) }
+        λ i. record { status = (status reply).code i; minor = 1; fields = seen-are laws lines (are_lines lines plain) i; size = length (sym printed i) }
 
     found_there : (bytes rest : List ℕ) → bytes ≡ head_text reply close ++ rest → (found : Result SeenHead Why)
         → FindsHead bytes found → found ≡ Ok (record { status = status_of reply; minor = 1; fields = lines; size = length (head_text reply close) })

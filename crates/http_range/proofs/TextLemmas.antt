@@ -19,6 +19,15 @@ abbrev pub ArePlain : List FieldLine → Type 0
 ArePlain [] = ⊤
 ArePlain (l ∷ ls) = IsShort l × ArePlain ls
 
+-- plain lines of any length
+abbrev pub AreLines : List FieldLine → Type 0
+AreLines [] = ⊤
+AreLines (l ∷ ls) = IsPlain l × AreLines ls
+
+pub are_lines : (ls : List FieldLine) → ArePlain ls → AreLines ls
+are_lines [] plain = tt
+are_lines (l ∷ ls) plain = (plain.0.plain, are_lines ls plain.1)
+
 -- the head with this status
 abbrev pub head_by : List ℕ → List ℕ → List FieldLine → ResponseHead
 head_by digits phrase ls = record {
@@ -47,14 +56,14 @@ module _ (laws : PartsAreRead) where
   lines-are [] = refl
   lines-are (l ∷ ls) = rw (laws.lines.printed l, lines-are ls)
 
-  pub fields-are : (ls : List FieldLine) → ArePlain ls → All IsField (map field_of ls)
+  pub fields-are : (ls : List FieldLine) → AreLines ls → All IsField (map field_of ls)
   fields-are [] plain = All-nil IsField
   fields-are (l ∷ ls) plain =
-      All-cons IsField (field_of l) (map field_of ls) (laws.lines.field l plain.0.plain) (fields-are ls plain.1)
+      All-cons IsField (field_of l) (map field_of ls) (laws.lines.field l plain.0) (fields-are ls plain.1)
 
-  pub seen-are : (ls : List FieldLine) → ArePlain ls → map name_and_value (map field_of ls) ≡ ls
+  pub seen-are : (ls : List FieldLine) → AreLines ls → map name_and_value (map field_of ls) ≡ ls
   seen-are [] plain = refl
-  seen-are (l ∷ ls) plain = λ i. laws.lines.seen l plain.0.plain i ∷ seen-are ls plain.1 i
+  seen-are (l ∷ ls) plain = λ i. laws.lines.seen l plain.0 i ∷ seen-are ls plain.1 i
 
   head_with-append : (digits phrase : List ℕ) (ls : List FieldLine) (rest : List ℕ)
       → head_with (status_by digits phrase) ls ++ rest ≡ print_response (head_by digits phrase ls) ++ rest
@@ -72,7 +81,7 @@ module _ (laws : PartsAreRead) where
   pub head_is : (digits phrase : List ℕ) (ls : List FieldLine) → length digits ≡ 3 → AllPass is_ascii_digit digits
       → AllPass is_value_byte phrase → ArePlain ls → IsResponseHead (head_by digits phrase ls)
   head_is digits phrase ls three all value plain =
-      record { minor = omega arith; digits = (three, all); reason = value; fields = fields-are ls plain }
+      record { minor = omega arith; digits = (three, all); reason = value; fields = fields-are ls (are_lines ls plain) }
 
   pub length-lines : (ls : List FieldLine) → ArePlain ls → length (flat_map line ls) ≤ length ls * 154
   length-lines [] plain = omega arith

@@ -1,7 +1,7 @@
 -- Laws of the definitions, each the contract of a function of `laws`.
 use Rattle.std.specs.Prelude.{◌≡◌, ◌≢◌, ◌<◌, ◌≤◌, ◌^◌, ◌-◌, ◌↔◌, ◌⊎◌, ℕ, suc, Bool, true, false, IsTrue, IsErr, IfOk, IsSomeAnd, List, [], ◌∷◌, ◌++◌, length, take, drop, Option, Some, None, Result, Ok, Err}
 use Rattle.httparse.specs.Grammar.{RequestHead, IsRequestHead, print_request}
-use Rattle.http_range.specs.Ask.{CanAsk, request_by, CanCheck, check_text}
+use Rattle.http_range.specs.Ask.{CanAsk, request_by, request_with, CanCheck, check_text, check_with}
 use Rattle.http_range.specs.Book.{Publication, IsPublication, Book, In, HasDistinctTags, Includes, Covers, Catalogue, IsCatalogue, published, publish, publication_tag}
 use Rattle.http_range.specs.Response.{Response, answer_by, ending, text_of, IsAnswer, response_to_client, response_to_check}
 use Rattle.http_fields.specs.declared.limits.TheConstants.{HEAD_LIMIT, MESSAGE_LIMIT}
@@ -21,6 +21,8 @@ use Rattle.http_range.specs.Reading.{front_seen, front_announced, front_tag, Rea
 use Rattle.http_range.specs.ContentRange.{IsContentRange, range_of}
 use Rattle.http_range.specs.declared.reading.ContentRange.{ContentRange}
 use Rattle.http_fields.specs.Tag.{is_kept_tag}
+use Rattle.http_fields.specs.Names.{is_host, is_name}
+use Rattle.http_fields.specs.Text.{FieldLine}
 pub use Rattle.http_fields.specs.Laws.{TagsAreQuoted, LimitsAre}
 
 -- the tags of two publications of one server are different
@@ -89,49 +91,62 @@ HeadsStay =
 -- what is answered to a client's request, whatever follows it in the stream
 abbrev pub ClientsAreAnswered : Type 0
 ClientsAreAnswered =
-    (catalogue : Catalogue) (host name more : List ℕ) (first last : ℕ) (tag : Option (List ℕ)) (response : Response)
-    → CanAsk host name first last tag → first ≤ last
-    → IsAnswer catalogue (request_by true host name first last tag ++ more) response
+    (catalogue : Catalogue) (host name : List ℕ) (extra : List FieldLine) (more : List ℕ) (first last : ℕ) (tag : Option (List ℕ)) (response : Response)
+    → CanAsk host name extra first last tag → first ≤ last
+    → IsAnswer catalogue (request_with true host name extra first last tag ++ more) response
     ↔ (response ≡ response_to_client (published name catalogue) first last tag)
 
 -- the same whether the connection is to end or may go on, but that the answer ends it or doesn't
 abbrev pub RequestsAreAnswered : Type 0
 RequestsAreAnswered =
-    (catalogue : Catalogue) (close : Bool) (host name more : List ℕ) (first last : ℕ) (tag : Option (List ℕ)) (response : Response)
-    → CanAsk host name first last tag → first ≤ last
-    → IsAnswer catalogue (request_by close host name first last tag ++ more) response
+    (catalogue : Catalogue) (close : Bool) (host name : List ℕ) (extra : List FieldLine) (more : List ℕ) (first last : ℕ) (tag : Option (List ℕ))
+    (response : Response)
+    → CanAsk host name extra first last tag → first ≤ last
+    → IsAnswer catalogue (request_with close host name extra first last tag ++ more) response
     ↔ (response ≡ ending close (response_to_client (published name catalogue) first last tag))
 
 -- what is answered to a client's check, whatever follows it: the tag alone exactly where the file still has it
 abbrev pub ChecksAreAnswered : Type 0
 ChecksAreAnswered =
-    (catalogue : Catalogue) (host name tag more : List ℕ) (response : Response) → CanCheck host name tag
-    → IsAnswer catalogue (check_text host name tag ++ more) response
+    (catalogue : Catalogue) (host name : List ℕ) (extra : List FieldLine) (tag more : List ℕ) (response : Response) → CanCheck host name extra tag
+    → IsAnswer catalogue (check_with host name extra tag ++ more) response
     ↔ (response ≡ response_to_check (published name catalogue) tag)
 
 -- a client's request at the front of a stream has exactly its one answer, whatever follows
 abbrev pub ClientsAreServed : Type 0
 ClientsAreServed =
-    (catalogue : Catalogue) (host name more : List ℕ) (first last : ℕ) (tag : Option (List ℕ)) (rs : List Response)
-    → CanAsk host name first last tag → first ≤ last
-    → IsAnswered catalogue (request_by true host name first last tag ++ more) rs
+    (catalogue : Catalogue) (host name : List ℕ) (extra : List FieldLine) (more : List ℕ) (first last : ℕ) (tag : Option (List ℕ)) (rs : List Response)
+    → CanAsk host name extra first last tag → first ≤ last
+    → IsAnswered catalogue (request_with true host name extra first last tag ++ more) rs
     ↔ (rs ≡ response_to_client (published name catalogue) first last tag ∷ [])
 
 -- one that lets the connection go on has its answer, and then those to what follows
 abbrev pub OpenClientsAreServed : Type 0
 OpenClientsAreServed =
-    (catalogue : Catalogue) (n : ℕ) (host name more : List ℕ) (first last : ℕ) (tag : Option (List ℕ)) (rs : List Response)
-    → CanAsk host name first last tag → first ≤ last
-    → AreAnswers catalogue (suc n) (request_by false host name first last tag ++ more) rs
+    (catalogue : Catalogue) (n : ℕ) (host name : List ℕ) (extra : List FieldLine) (more : List ℕ) (first last : ℕ) (tag : Option (List ℕ)) (rs : List Response)
+    → CanAsk host name extra first last tag → first ≤ last
+    → AreAnswers catalogue (suc n) (request_with false host name extra first last tag ++ more) rs
     ↔ ((later : List Response) × (rs ≡ ending false (response_to_client (published name catalogue) first last tag) ∷ later)
     × AreAnswers catalogue n more later)
 
 -- a check has its answer, and nothing behind it has any
 abbrev pub ChecksAreServed : Type 0
 ChecksAreServed =
-    (catalogue : Catalogue) (host name tag more : List ℕ) (rs : List Response) → CanCheck host name tag
-    → IsAnswered catalogue (check_text host name tag ++ more) rs
+    (catalogue : Catalogue) (host name : List ℕ) (extra : List FieldLine) (tag more : List ℕ) (rs : List Response) → CanCheck host name extra tag
+    → IsAnswered catalogue (check_with host name extra tag ++ more) rs
     ↔ (rs ≡ response_to_check (published name catalogue) tag ∷ [])
+
+-- how many bytes a client's request and check have at most: as they are asked for, and where host and name are those of a plain client
+-- and no field is added
+pub record RequestsAreShort : Type 0 where
+  pub asked : (close : Bool) (host name : List ℕ) (extra : List FieldLine) (first last : ℕ) (tag : Option (List ℕ))
+      → CanAsk host name extra first last tag → length (request_with close host name extra first last tag) ≤ 4096
+  pub checked : (host name : List ℕ) (extra : List FieldLine) (tag : List ℕ)
+      → CanCheck host name extra tag → length (check_with host name extra tag) ≤ 4096
+  pub plain : (close : Bool) (host name : List ℕ) (first last : ℕ) (tag : Option (List ℕ)) → IsTrue (is_host host)
+      → IsTrue (is_name name) → CanAsk host name [] first last tag → length (request_by close host name first last tag) ≤ 1024
+  pub plain_check : (host name tag : List ℕ) → IsTrue (is_host host) → IsTrue (is_name name) → CanCheck host name [] tag
+      → length (check_text host name tag) ≤ 1024
 
 -- a publication stands under its name, and changes no other name
 pub record PublishReplaces : Type 0 where

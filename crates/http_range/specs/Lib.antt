@@ -1,5 +1,8 @@
 pub use Rattle.http_fields.specs.Tag
 pub use Rattle.http_fields.specs.Names
+pub use Rattle.http_fields.specs.Target
+pub use Rattle.http_fields.specs.RequestFields
+pub use Rattle.http_fields.specs.FieldRefusal
 pub use Rattle.http_fields.specs.Text
 pub use Rattle.http_fields.specs.Digits
 pub use Rattle.http_fields.specs.Fields

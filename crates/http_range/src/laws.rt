@@ -1,6 +1,6 @@
 //! Laws of the definitions, for the crates above. Each function only names the laws that it rests on: its contract is
 //! the law.
-ghost use Rattle.http_range.specs.Laws.{HeadsGrow, FramesGrow, FrontsAreRead, ChecksAreRead, HonestyIsKept, ContentRangesAreForms, TagsTellPublications, PublicationTagsAreKept, AnswersAreSent, AnswersAreUnique, StreamsAreAnsweredOnce, MessagesStay, MessagesAreTested, HeadsAreMessages, HeadsStay, ClientsAreAnswered, RequestsAreAnswered, ChecksAreAnswered, ClientsAreServed, OpenClientsAreServed, ChecksAreServed, PublishReplaces, PublishedIsNamed};
+ghost use Rattle.http_range.specs.Laws.{HeadsGrow, FramesGrow, FrontsAreRead, ChecksAreRead, HonestyIsKept, ContentRangesAreForms, TagsTellPublications, PublicationTagsAreKept, AnswersAreSent, AnswersAreUnique, StreamsAreAnsweredOnce, MessagesStay, MessagesAreTested, HeadsAreMessages, HeadsStay, ClientsAreAnswered, RequestsAreAnswered, ChecksAreAnswered, ClientsAreServed, OpenClientsAreServed, ChecksAreServed, RequestsAreShort, PublishReplaces, PublishedIsNamed};
 ghost use Rattle.http_fields.specs.Laws.{TagsAreQuoted};
 
 use http_fields::laws::law_parts_are_read;
@@ -45,6 +45,11 @@ pub fn law_clients_are_answered()
 {
     law_parts_are_read();
 }
+
+/// Bounds the texts of a client's request and check.
+pub fn law_requests_are_short()
+    ensures { RequestsAreShort }
+{}
 
 /// States what stands under a name after a publication, and that it has that name.
 pub fn law_publications_replace()

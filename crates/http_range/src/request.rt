@@ -5,7 +5,8 @@ ghost use Rattle.http_fields.specs.Fields.{values_of, only, is_there};
 ghost use Rattle.http_fields.specs.Members.{has_member};
 ghost use Rattle.http_fields.specs.Conditional.{one_matches};
 ghost use Rattle.http_range.specs.Seen.{HasRequest};
-ghost use Rattle.http_range.specs.Ask.{CanAsk, CanCheck, check_text, checked_request, request_by, asked_request};
+ghost use Rattle.http_range.specs.Ask.{CanAsk, CanCheck, check_with, checked_request, request_with, asked_request};
+ghost use Rattle.http_fields.specs.Text.{FieldLine};
 
 use http_fields::bytes::up_to;
 use http_fields::fields::HeaderFields;
@@ -99,14 +100,15 @@ pub fn read_request(bytes: &[u8]) -> Option<Request<'_>>
     ensures finds { HasRequest bytes.now result }
 
     // The text of a client's request is read as what was asked, whatever follows it.
-    ensures asked { (close : Bool) (host name : List ℕ) (first last : ℕ) (tag : Option (List ℕ)) (more : List ℕ)
-        → CanAsk host name first last tag
-        → bytes.now ≡ request_by close host name first last tag ++ more
-        → result ≡ Some (asked_request close host name first last tag) }
+    ensures asked { (close : Bool) (host name : List ℕ) (extra : List FieldLine) (first last : ℕ) (tag : Option (List ℕ)) (more : List ℕ)
+        → CanAsk host name extra first last tag
+        → bytes.now ≡ request_with close host name extra first last tag ++ more
+        → result ≡ Some (asked_request close host name extra first last tag) }
 
     // And so is the text of its check.
-    ensures checked { (host name tag more : List ℕ) → CanCheck host name tag → bytes.now ≡ check_text host name tag ++ more
-        → result ≡ Some (checked_request host name tag) }
+    ensures checked { (host name : List ℕ) (extra : List FieldLine) (tag more : List ℕ) → CanCheck host name extra tag
+        → bytes.now ≡ check_with host name extra tag ++ more
+        → result ≡ Some (checked_request host name extra tag) }
 {
     law_parts_are_read();
     find(bytes)

@@ -2,6 +2,7 @@
 mod answer_heads;
 mod answers;
 mod conditions;
+mod extra_fields;
 mod frames;
 mod fronts;
 mod names;

@@ -1,2 +1,4 @@
+mod BoundsLemmas
 mod FileLemmas
+mod HeaderLemmas
 mod NamedLemmas

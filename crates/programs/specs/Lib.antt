@@ -1,4 +1,6 @@
+pub mod Bounds
 pub mod Files
+pub mod Headers
 pub mod NamedFiles
 pub mod Number
 pub mod Origins

@@ -7,8 +7,8 @@ use Rattle.scripts.specs.declared.line.ScriptError.TheVariants as script
 use Rattle.read_command.specs.declared.error.ReadError.{ReadError}
 use Rattle.read_command.specs.declared.error.ReadError.TheVariants as reading
 use Rattle.programs.specs.declared.exit.Exit.{Exit}
-use Rattle.programs.specs.declared.exit.Exit.TheVariants.{NotText, NotAProgram, CommandLine, NotANumber, NotAFile, NotAnOrigin, OneName, NoClock, Script}
-use Rattle.programs.specs.declared.exit.Exit.TheVariants.{RefusedClient, NotAFileUrl, OfFile, Explained, NoReport, NotUsed, CantRead, Refused, CantListen, CantAccept, CantWait, CantWrite, CantWriteFile, Memory, ReaderGone}
+use Rattle.programs.specs.declared.exit.Exit.TheVariants.{NotText, NotAProgram, CommandLine, NotANumber, NotACoordinate, NoRectangle, NoWindow, NoWorld, NotAFile, NotAnOrigin, OneName, NoClock, Script}
+use Rattle.programs.specs.declared.exit.Exit.TheVariants.{RefusedClient, NotAFileUrl, RefusedUrl, NoFieldLine, NotAField, OfFile, Explained, NoReport, NotUsed, CantRead, Refused, CantListen, CantAccept, CantWait, CantWrite, CantWriteFile, Memory, ReaderGone}
 
 -- 0 where help or the version is asked for, and 2 where the words aren't the program's
 abbrev pub line_status : ErrorKind → ℕ
@@ -23,11 +23,18 @@ HasStatus NotText n = n ≡ 2
 HasStatus (NotAProgram word) n = n ≡ 2
 HasStatus (CommandLine error) n = n ≡ line_status (kind_of error)
 HasStatus (NotANumber word) n = n ≡ 2
+HasStatus (NotACoordinate word) n = n ≡ 2
+HasStatus NoRectangle n = n ≡ 2
+HasStatus (NoWindow why) n = n ≡ 2
+HasStatus NoWorld n = n ≡ 2
 HasStatus (NotAFile word) n = n ≡ 2
 HasStatus (NotAnOrigin word) n = n ≡ 2
 HasStatus (OneName name first second) n = n ≡ 2
 HasStatus (RefusedClient refusal) n = n ≡ 2
 HasStatus (NotAFileUrl word error) n = n ≡ 2
+HasStatus (RefusedUrl word error) n = n ≡ 2
+HasStatus NoFieldLine n = n ≡ 2
+HasStatus (NotAField name error) n = n ≡ 2
 HasStatus (OfFile fault) n = n ≡ 3
 HasStatus (Explained fault) n = n ≡ 3
 HasStatus NoReport n = n ≡ 4
@@ -60,4 +67,6 @@ abbrev pub exit_of_reading : ReadError → Exit
 exit_of_reading (reading.OfFile fault) = OfFile fault
 exit_of_reading reading.NoReport = NoReport
 exit_of_reading (reading.NotUsed why) = NotUsed why
+exit_of_reading (reading.NoWindow why) = NoWindow why
+exit_of_reading reading.NoWorld = NoWorld
 exit_of_reading reading.Memory = Memory

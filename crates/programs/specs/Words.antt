@@ -1,22 +1,29 @@
 -- What the words of `cogread` ask for, and the numbers of its options and of `cogserve`'s.
-use Rattle.std.specs.Prelude.{◌≡◌, ◌⊎◌, ℕ, ◌^◌, ◌-◌, true, false, List, Option, Some, None, IsSome, option_and_then}
+use Rattle.std.specs.Prelude.{◌≡◌, ◌⊎◌, ℕ, ◌^◌, ◌-◌, Bool, true, false, List, Option, Some, None, IsSome, option_and_then, string_bytes, ⊤}
 use Rattle.std.specs.Option.{option_copied}
 use Rattle.tiff_dir.specs.declared.query.Query.{Query}
 use Rattle.tiff_dir.specs.declared.query.Query.TheVariants.{Window, Info}
 use Rattle.tiff_dir.specs.declared.query.Pick.{Pick}
 use Rattle.tiff_dir.specs.declared.query.Pick.TheVariants.{Level, Columns}
 use Rattle.text_description.specs.declared.description.Form.TheVariants.{Words, Json}
+use Rattle.command_lines.specs.FileUrl.{IsFileUrlError}
 use Rattle.command_lines.specs.Number.{number_from}
 use Rattle.command_lines.specs.declared.read.AskedWords.{AskedWords}
 use Rattle.command_lines.specs.declared.read.AskedWords.TheVariants as words
+use Rattle.command_lines.specs.declared.read.BoundsWords.{BoundsWords}
 use Rattle.command_lines.specs.declared.read.ReadLine.{ReadLine}
 use Rattle.command_lines.specs.declared.read.WindowWords.{WindowWords}
+use Rattle.cog_client.specs.Client.{IsUrlRefusal}
 use Rattle.cog_client.specs.declared.error.ClientError.{ClientError}
 use Rattle.programs.specs.declared.exit.Exit.{Exit}
-use Rattle.programs.specs.declared.exit.Exit.TheVariants.{Memory, RefusedClient}
+use Rattle.programs.specs.declared.exit.Exit.TheVariants.{Memory, NotAFileUrl, RefusedClient, RefusedUrl}
+use Rattle.read_command.specs.declared.part.Area.{Area}
+use Rattle.read_command.specs.declared.part.Area.TheVariants as area
+use Rattle.read_command.specs.declared.part.Part.{Part}
 use Rattle.read_command.specs.declared.reading.Asked.{Asked}
 use Rattle.read_command.specs.declared.reading.Asked.TheVariants as asked
-use Rattle.programs.specs.Number.{number_or}
+use Rattle.programs.specs.Bounds.{IsBounds, IsNoBounds, IsOfRectangle}
+use Rattle.programs.specs.Number.{number_or, IsOfNumber}
 
 -- a number of 32 bits
 abbrev pub number_32 : List ℕ → Option ℕ
@@ -37,14 +44,34 @@ IsWindow words (Window x y w h pick) = (number_32 words.x.now ≡ Some x) × (nu
     × (number_32 words.h.now ≡ Some h) × IsPick (option_copied words.level) (option_copied words.columns) pick
 IsWindow words Info = ⊥
 
--- this is what the words ask for
-abbrev pub IsAsked : AskedWords → Asked → Type 0
-IsAsked words.Info a = a ≡ asked.Query Info
-IsAsked (words.Description true) a = a ≡ asked.Description Json
-IsAsked (words.Description false) a = a ≡ asked.Description Words
-IsAsked (words.Window window) (asked.Query query) = IsWindow window query
-IsAsked (words.Whole level) (asked.Whole n) = level_number (option_copied level) ≡ Some n
-IsAsked w a = ⊥
+-- A window of a level whose world file is asked for, too, is a part of the level.
+abbrev pub asked_window : Query → (has_world : Bool) → Asked
+asked_window (Window x y w h (Level level)) true = asked.Part (record { area = area.Pixels x y w h; level = level; has_world = true })
+asked_window query has_world = asked.Query query
+
+-- the window of the words, and their world file
+abbrev pub AsksWindowOf : WindowWords → (has_world : Bool) → Asked → Type 0
+AsksWindowOf words has_world a = (query : Query) × IsWindow words query × (a ≡ asked_window query has_world)
+
+-- the part has the level of this word, and a world file or none
+pub record HasLevel (level : Option (List ℕ)) (has_world : Bool) (part : Part) : Type 0 where
+  pub number : level_number level ≡ Some part.level
+  pub world : part.has_world ≡ has_world
+
+-- the area is the rectangle of the words
+abbrev pub IsBoundsOf : BoundsWords → Area → Type 0
+IsBoundsOf words (area.Bounds b) = IsBounds words b
+IsBoundsOf words a = ⊥
+
+-- This is what the words ask for, with a world file or without.
+abbrev pub IsAsked : AskedWords → (has_world : Bool) → Asked → Type 0
+IsAsked words.Info has_world a = a ≡ asked.Query Info
+IsAsked (words.Description true) has_world a = a ≡ asked.Description Json
+IsAsked (words.Description false) has_world a = a ≡ asked.Description Words
+IsAsked (words.Window window) has_world a = AsksWindowOf window has_world a
+IsAsked (words.Whole level) has_world (asked.Part part) = (part.area ≡ area.Whole) × HasLevel (option_copied level) has_world part
+IsAsked (words.Bounds bounds) has_world (asked.Part part) = IsBoundsOf bounds part.area × HasLevel (option_copied bounds.level) has_world part
+IsAsked w has_world a = ⊥
 
 -- no level is picked by these words: the number of columns, or without it that of the level, is none
 abbrev pub IsNoPick : (level columns : Option (List ℕ)) → Type 0
@@ -56,12 +83,22 @@ abbrev pub IsNoWindow : WindowWords → Type 0
 IsNoWindow words = (number_32 words.x.now ≡ None) ⊎ (number_32 words.y.now ≡ None) ⊎ (number_32 words.w.now ≡ None)
     ⊎ (number_32 words.h.now ≡ None) ⊎ IsNoPick (option_copied words.level) (option_copied words.columns)
 
--- the words ask for nothing, since one of them is no number
+-- the words ask for nothing, since one of them is no number, or the sides of a rectangle stand the wrong way round
 abbrev pub AsksNothing : AskedWords → Type 0
 AsksNothing words.Info = ⊥
 AsksNothing (words.Description json) = ⊥
 AsksNothing (words.Window window) = IsNoWindow window
 AsksNothing (words.Whole level) = level_number (option_copied level) ≡ None
+AsksNothing (words.Bounds bounds) = IsNoBounds bounds ⊎ (level_number (option_copied bounds.level) ≡ None)
+
+-- a rectangle is asked for
+abbrev pub AsksBounds : AskedWords → Type 0
+AsksBounds (words.Bounds bounds) = ⊤
+AsksBounds w = ⊥
+
+-- one of the words is no number, or those of a rectangle have none, or memory is wanting
+abbrev pub IsOfWords : AskedWords → Exit → Type 0
+IsOfWords w fault = IsOfNumber fault ⊎ (AsksBounds w × IsOfRectangle fault)
 
 -- how many exchanges at most, how many blocks are kept, and how many blocks a request may ask for behind those that are needed next, by the
 -- words of these options, or without them
@@ -109,3 +146,16 @@ abbrev pub IsNoClient : Option ClientError → Exit → Type 0
 IsNoClient refusal (RefusedClient error) = refusal ≡ Some error
 IsNoClient refusal Memory = refusal ≡ None
 IsNoClient refusal fault = ⊥
+
+-- No client is made of a URL, by its word, its authority and its target: they are refused for this, and the fault names the word, or memory
+-- is wanting.
+abbrev pub IsNoUrlClient : (word authority target : List ℕ) (blocks : ℕ) → Exit → Type 0
+IsNoUrlClient word authority target blocks (RefusedUrl named error) = (string_bytes named ≡ word) × IsUrlRefusal authority target blocks error
+IsNoUrlClient word authority target blocks Memory = ⊤
+IsNoUrlClient word authority target blocks fault = ⊥
+
+-- the word is no URL of a file for this, and the fault names it, or memory is wanting
+abbrev pub IsNoUrl : List ℕ → Exit → Type 0
+IsNoUrl word (NotAFileUrl named error) = (string_bytes named ≡ word) × IsFileUrlError word error
+IsNoUrl word Memory = ⊤
+IsNoUrl word fault = ⊥

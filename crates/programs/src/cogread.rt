@@ -1,25 +1,28 @@
 //! `cogread`: reads a window, the info or a description of a file over sockets.
 ghost use Rattle.std.specs.Prelude.{◌≡◌, ◌<◌, IfErr, IfOk, OnErr, Some, length};
 ghost use Rattle.std.specs.Option.{option_copied};
-ghost use Rattle.cog_client.specs.Calls.{Starts};
-ghost use Rattle.cog_client.specs.Client.{client_refusal};
+ghost use Rattle.command_lines.specs.FileUrl.{Names};
 ghost use Rattle.programs.specs.Number.{IsOfNumber};
-ghost use Rattle.programs.specs.Words.{AsksNothing, HasNoNumber, IsAsked, IsNoClient, IsNoPick, IsNoWindow, IsPick, IsWindow, ahead_number, blocks_number, requests_number};
+ghost use Rattle.programs.specs.Words.{AsksNothing, HasNoNumber, IsAsked, IsNoPick, IsNoUrl, IsNoWindow, IsOfWords, IsPick, IsWindow, ahead_number, asked_window, blocks_number, requests_number};
 
+use crate::bounds::bounds;
+use crate::clients::{client_of, client_of_url};
 use crate::exit::Exit;
+use crate::headers::add_headers;
 use crate::local;
 use crate::local::{is_plain_file, server_of_file, source_of};
 use crate::number::{number, number_or};
+use crate::world_file::world_path;
 use client_sockets::Socket;
-use cog_client::{Client, ClientError, Pieces, Query};
+use cog_client::{Client, Pieces, Query};
 use command_lines::{
     AskedWords, FileUrl, FileUrlError, FileWord, ReadLine, WindowWords, file_url, file_word,
-    is_url, read_line, words_instead,
+    is_url, read_line_with_headers, words_instead,
 };
 use disk_files::replace_file;
 use range_cache::{MAX_CAPACITY, MIN_CAPACITY};
-use read_command::{Asked, Exchanges, ReadError, Text, Verbosity};
-use read_progress::{Noted, NotedNet, RefusalSentence};
+use read_command::{Area, Asked, Exchanges, Part, ReadError, Text};
+use read_progress::{Noted, NotedNet, Printing, Verbosity};
 use std::alloc::{AllocError, Global};
 use std::io;
 use std::net::{Net, TcpStream};
@@ -67,32 +70,63 @@ fn window<R: AllocGlobal>(rt: &R, words: &WindowWords<'_>) -> Result<Query, Exit
     })
 }
 
-fn asked<R: AllocGlobal>(rt: &R, words: AskedWords<'_>) -> Result<Asked, Exit>
-    ensures ok { IfOk result (IsAsked words.entry) }
+/// Returns a window as what is asked of a file. With `has_world` it is a part of its level, whose world file is asked for, too.
+fn asked_window(query: Query, has_world: bool) -> Asked
+    ensures { result ≡ asked_window query has_world }
+{
+    match (query, has_world) {
+        (
+            Query::Window {
+                x,
+                y,
+                w,
+                h,
+                pick: Pick::Level(level),
+            },
+            true,
+        ) => Asked::Part(Part {
+            area: Area::Pixels { x, y, w, h },
+            level,
+            has_world,
+        }),
+        (query, _) => Asked::Query(query),
+    }
+}
+
+/// Returns what words ask for. With `has_world` the world file of a window is asked for, too.
+fn asked<R: AllocGlobal>(rt: &R, words: AskedWords<'_>, has_world: bool) -> Result<Asked, Exit>
+    ensures ok { IfOk result (IsAsked words.entry has_world) }
     ensures err { OnErr result (AsksNothing words.entry) }
-    ensures kinds { IfErr result IsOfNumber }
+    ensures kinds { IfErr result (IsOfWords words.entry) }
 {
     match words {
         AskedWords::Info => Ok(Asked::Query(Query::Info)),
         AskedWords::Description { is_json: true } => Ok(Asked::Description(Form::Json)),
         AskedWords::Description { is_json: false } => Ok(Asked::Description(Form::Words)),
-        AskedWords::Window(words) => Ok(Asked::Query(window(rt, &words)?)),
-        AskedWords::Whole { level } => Ok(Asked::Whole {
+        AskedWords::Window(words) => Ok(asked_window(window(rt, &words)?, has_world)),
+        AskedWords::Whole { level } => Ok(Asked::Part(Part {
+            area: Area::Whole,
             level: number_or(rt, level, 0, u32::MAX, 0)?,
-        }),
+            has_world,
+        })),
+        AskedWords::Bounds(words) => Ok(Asked::Part(Part {
+            area: Area::Bounds(bounds(rt, &words)?),
+            level: number_or(rt, words.level, 0, u32::MAX, 0)?,
+            has_world,
+        })),
     }
 }
 
 fn numbers_of<R: AllocGlobal>(rt: &R, line: &ReadLine<'_>) -> Result<Numbers, Exit>
-    ensures asked { IfOk result (λ numbers. IsAsked line.now.asked numbers.asked) }
+    ensures asked { IfOk result (λ numbers. IsAsked line.now.asked line.now.world numbers.asked) }
     ensures requests { IfOk result (λ numbers. requests_number (option_copied line.now.requests) ≡ Some numbers.requests) }
     ensures blocks { IfOk result (λ numbers. blocks_number (option_copied line.now.blocks) ≡ Some numbers.blocks) }
     ensures ahead { IfOk result (λ numbers. ahead_number (option_copied line.now.ahead) ≡ Some numbers.ahead) }
     ensures err { OnErr result (HasNoNumber line.now) }
-    ensures kinds { IfErr result IsOfNumber }
+    ensures kinds { IfErr result (IsOfWords line.now.asked) }
 {
     Ok(Numbers {
-        asked: asked(rt, line.asked)?,
+        asked: asked(rt, line.asked, line.world)?,
         requests: number_or(rt, line.requests, 1, 65_536, 64)?,
         blocks: number_or(rt, line.blocks, MIN_CAPACITY, MAX_CAPACITY, 256)?,
         ahead: number_or(rt, line.ahead, 0, 64, 0)?,
@@ -100,33 +134,11 @@ fn numbers_of<R: AllocGlobal>(rt: &R, line: &ReadLine<'_>) -> Result<Numbers, Ex
 }
 
 /// Returns what a line wants printed of exchanges.
-fn telling_of(line: &ReadLine<'_>) -> Verbosity {
+fn verbosity_of(line: &ReadLine<'_>) -> Verbosity {
     match (line.verbose, line.progress) {
         (true, _) => Verbosity::Each,
         (false, true) => Verbosity::Progress,
         (false, false) => Verbosity::Nothing,
-    }
-}
-
-/// Makes the client for the server and the name of a line. It keeps at most `blocks` blocks. Fails with `RefusedClient`, or with `Memory`.
-fn client_of<R: Eprint + AllocGlobal>(
-    rt: &R,
-    line: &ReadLine<'_>,
-    blocks: u32,
-) -> Result<Client, Exit>
-    ensures starts { IfOk result (Starts line.now.server.now line.now.name.now blocks) }
-    ensures err { IfErr result (IsNoClient (client_refusal line.now.server.now line.now.name.now blocks)) }
-{
-    let server = line.server.as_bytes();
-    match Client::new(rt.alloc(), server, line.name.as_bytes(), blocks) {
-        Ok(client) => Ok(client),
-        Err(ClientError::Memory) => Err(Exit::Memory),
-        Err(refusal) => {
-            if line.verbose {
-                let _ = eprintln!(rt; "cogread: {}", RefusalSentence(&refusal));
-            }
-            Err(Exit::RefusedClient(refusal))
-        }
     }
 }
 
@@ -164,26 +176,32 @@ fn text_of_source<'c, R, P: Pieces + Drop>(
 where
     R: Clock + Eprint + AllocGlobal,
 {
-    let mut noted = Noted::new(rt.alloc(), source);
-    let exchanges = Exchanges {
+    let printing = Printing {
         rt,
         net,
+        verbosity: verbosity_of(line),
+    };
+    let mut noted = Noted::new(rt.alloc(), source, printing);
+    let exchanges = Exchanges {
+        rt,
         requests: numbers.requests,
-        verbosity: telling_of(line),
         is_url,
     };
     exchanges.text(client, &mut noted, numbers.asked)
 }
 
-/// Writes a text to the line's file, or to standard output.
-fn write_text<R>(rt: &R, line: &ReadLine<'_>, text: &Text<'_>) -> Result<(), Exit>
+/// Writes a file of the disk whole, or leaves it as it was.
+fn write_file<R>(
+    rt: &R,
+    line: &ReadLine<'_>,
+    path: &str,
+    head: &[u8],
+    rest: &[u8],
+) -> Result<(), Exit>
 where
-    R: Files + Print + Eprint + AllocGlobal,
+    R: Files + Eprint + AllocGlobal,
 {
-    let Some(path) = line.output else {
-        return Ok(text.write_to(&mut io::writer(rt))?);
-    };
-    match replace_file(rt, path, &text.head, text.samples) {
+    match replace_file(rt, path, head, rest) {
         Ok(()) => Ok(()),
         Err(error) if error.kind() == io::ErrorKind::OutOfMemory => Err(Exit::Memory),
         Err(error) => {
@@ -195,24 +213,48 @@ where
     }
 }
 
-/// Reads what a line asks for over sockets, and writes it. With `is_url` a URL names the file.
-fn run_read<R>(rt: &R, line: &ReadLine<'_>, is_url: bool) -> Result<(), Exit>
+/// Writes a text to the line's file, and its world file beside it, or the text to standard output.
+fn write_text<R>(rt: &R, line: &ReadLine<'_>, text: &Text<'_>) -> Result<(), Exit>
+where
+    R: Files + Print + Eprint + AllocGlobal,
+{
+    let Some(path) = line.output else {
+        return Ok(text.write_to(&mut io::writer(rt))?);
+    };
+    write_file(rt, line, path, &text.head, text.samples)?;
+    let Some(world) = text.world else {
+        return Ok(());
+    };
+    let beside = world_path(rt.alloc(), path)?;
+    let lines = format!(in rt.alloc(); "{world}")?;
+    write_file(rt, line, beside.as_str(), lines.as_bytes(), b"")
+}
+
+/// Reads what a line asks for over sockets, with the client of its file, and writes it. With `is_url` a URL names the file.
+fn run_read<R>(
+    rt: &R,
+    line: &ReadLine<'_>,
+    headers: &[&str],
+    numbers: Numbers,
+    mut client: Client,
+    is_url: bool,
+) -> Result<(), Exit>
 where
     R: Files + Clock + Print + Eprint + AllocGlobal + Net<Stream = TcpStream>,
 {
-    let numbers = numbers_of(rt, line)?;
-    let mut client = client_of(rt, line, numbers.blocks)?;
+    add_headers(rt, &mut client, headers)?;
     let text = text_of_line(rt, line, numbers, &mut client, is_url)?;
     write_text(rt, line, &text)
 }
 
 /// Reads what a line asks for from the file of the disk at `path`, and writes it.
-fn run_local<R>(rt: &R, line: &ReadLine<'_>, path: &str) -> Result<(), Exit>
+fn run_local<R>(rt: &R, line: &ReadLine<'_>, headers: &[&str], path: &str) -> Result<(), Exit>
 where
     R: Files + Clock + Print + Eprint + AllocGlobal + Net<Stream = TcpStream>,
 {
     let numbers = numbers_of(rt, line)?;
     let mut client = client_of(rt, line, numbers.blocks)?;
+    add_headers(rt, &mut client, headers)?;
     client.look_ahead(numbers.ahead);
     let server = server_of_file(rt, path)?;
     let source = source_of(rt.alloc(), &server);
@@ -221,44 +263,88 @@ where
     write_text(rt, line, &text)
 }
 
-/// Returns the file that a URL names. Fails with `NotAFileUrl`, or with `Memory`.
-fn place_of<'a, R: AllocGlobal>(rt: &R, url: &'a str) -> Result<FileUrl<'a>, Exit> {
-    match file_url(rt.alloc(), url) {
-        Ok(place) => Ok(place),
+/// Returns what a URL names. Fails with `NotAFileUrl`, or with `Memory`.
+fn url_of<R: AllocGlobal>(rt: &R, word: &str) -> Result<FileUrl, Exit>
+    ensures ok { IfOk result (Names word.now) }
+    ensures err { IfErr result (IsNoUrl word.now) }
+{
+    match file_url(rt.alloc(), word) {
+        Ok(url) => Ok(url),
         Err(FileUrlError::Memory) => Err(Exit::Memory),
-        Err(error) => Err(Exit::NotAFileUrl(String::from_str(rt.alloc(), url)?, error)),
+        Err(error) => Err(Exit::NotAFileUrl(String::from_str(rt.alloc(), word)?, error)),
     }
 }
 
-/// Returns the words that a URL stands for: a server and a name, and `describe` before them with `is_alone`.
-fn words_of_place<'a>(
+/// A URL that the line names, with the words that it stands for.
+#[derive(Drop)]
+struct AskedUrl<'a> {
+    url: &'a FileUrl,
+    words: Vec<&'a str>,
+}
+
+/// Returns `url` with the words that it stands for: a server and a name, and `describe` before them with `is_alone`.
+fn asked_url<'a>(
     alloc: Global,
-    place: &'a FileUrl<'a>,
+    url: &'a FileUrl,
     is_alone: bool,
-) -> Result<Vec<&'a str>, AllocError> {
+) -> Result<AskedUrl<'a>, AllocError> {
     let mut words = Vec::new(alloc);
     if is_alone {
         words.push("describe")?;
     }
-    words.push(place.server.as_str())?;
-    words.push(place.name)?;
-    Ok(words)
+    words.push(url.server.as_str())?;
+    words.push(url.target.as_str())?;
+    Ok(AskedUrl { url, words })
+}
+
+/// Returns a line as it is where a URL names the file. The connection is kept, unless the line says otherwise, and the client looks ahead.
+fn line_of_url<'a>(line: ReadLine<'a>) -> ReadLine<'a> {
+    ReadLine {
+        keep: !line.close,
+        ahead: line.ahead.or(Some(AHEAD_OF_A_URL)),
+        ..line
+    }
+}
+
+/// Returns a line as it is where a path names the file. The client looks ahead, and makes as many requests as it needs.
+fn line_of_path<'a>(line: ReadLine<'a>) -> ReadLine<'a> {
+    ReadLine {
+        ahead: line.ahead.or(Some(AHEAD_OF_A_URL)),
+        requests: line.requests.or(Some(REQUESTS_OF_A_FILE)),
+        ..line
+    }
 }
 
 /// Runs the program on words of which the one at `index` is a URL, which stands for a server and a name. With `is_alone` it stands for
-/// `describe`, too. The connection is kept, unless the line says otherwise, and the client looks ahead.
+/// `describe`, too.
 fn run_url<R>(rt: &R, words: &[&str], index: usize, is_alone: bool) -> Result<(), Exit>
 where
     R: Files + Clock + Print + Eprint + AllocGlobal + Net<Stream = TcpStream>,
     requires { index < length words.now }
 {
-    let place = place_of(rt, words[index])?;
-    let instead = words_of_place(rt.alloc(), &place, is_alone)?;
-    let named = words_instead(rt.alloc(), words, index, &instead)?;
-    let mut line = read_line(rt.alloc(), &named)?;
-    line.keep = !line.close;
-    line.ahead = line.ahead.or(Some(AHEAD_OF_A_URL));
-    explained(run_read(rt, &line, true))
+    let url = url_of(rt, words[index])?;
+    let asked = asked_url(rt.alloc(), &url, is_alone)?;
+    run_asked_url(rt, words, index, &asked)
+}
+
+/// Runs the program on words of which the one at `index` is the URL of `asked`, as `run_url` does.
+fn run_asked_url<'a, R>(
+    rt: &R,
+    words: &[&'a str],
+    index: usize,
+    asked: &AskedUrl<'a>,
+) -> Result<(), Exit>
+where
+    R: Files + Clock + Print + Eprint + AllocGlobal + Net<Stream = TcpStream>,
+    requires { index < length words.now }
+{
+    let word = words[index];
+    let named = words_instead(rt.alloc(), words, index, &asked.words)?;
+    let read = read_line_with_headers(rt.alloc(), &named)?;
+    let line = line_of_url(read.line);
+    let numbers = numbers_of(rt, &line)?;
+    let client = client_of_url(rt, word, asked.url, numbers.blocks)?;
+    explained(run_read(rt, &line, &read.headers, numbers, client, true))
 }
 
 /// Has the fault of a file explained, as where a URL or a path of the disk names it.
@@ -282,10 +368,9 @@ where
     if is_plain_file(rt, words[index]) {
         let instead = [local::SERVER, local::NAME];
         let named = words_instead(rt.alloc(), words, index, &instead)?;
-        let mut line = read_line(rt.alloc(), &named)?;
-        line.ahead = line.ahead.or(Some(AHEAD_OF_A_URL));
-        line.requests = line.requests.or(Some(REQUESTS_OF_A_FILE));
-        return explained(run_local(rt, &line, words[index]));
+        let read = read_line_with_headers(rt.alloc(), &named)?;
+        let line = line_of_path(read.line);
+        return explained(run_local(rt, &line, &read.headers, words[index]));
     }
     run_named(rt, words)
 }
@@ -295,8 +380,10 @@ fn run_named<R>(rt: &R, words: &[&str]) -> Result<(), Exit>
 where
     R: Files + Clock + Print + Eprint + AllocGlobal + Net<Stream = TcpStream>,
 {
-    let line = read_line(rt.alloc(), words)?;
-    run_read(rt, &line, false)
+    let read = read_line_with_headers(rt.alloc(), words)?;
+    let numbers = numbers_of(rt, &read.line)?;
+    let client = client_of(rt, &read.line, numbers.blocks)?;
+    run_read(rt, &read.line, &read.headers, numbers, client, false)
 }
 
 /// Runs the program on its words, of which the first is its own name. Fails with the reason for which the program ends early.

@@ -86,16 +86,19 @@ fn help(alloc: Global, name: &str) -> Result<String, AllocError> {
     format!(in alloc;
         "\
 Usage: {name} cogserve FILE..
-       {name} cogread http://HOST[:PORT]/NAME
+       {name} cogread http://HOST[:PORT]/PATH[?QUERY]
        {name} cogserve --listen HOST:PORT --epoch N --connections N [--at-once N] [--patience SECONDS] [--log] NAME=PATH..
        {name} cogserve .. [--allow-origin ORIGIN] [--announce-last] [--verify SECONDS] ..
        {name} cogread window SERVER NAME X Y W H [--level N | --columns C] [--requests N] [--blocks N] [--ahead N] [--keep]
        {name} cogread info SERVER NAME [--requests N] [--blocks N] [--ahead N] [--keep]
        {name} cogread describe SERVER NAME [--json] [--requests N] [--blocks N] [--ahead N] [--keep]
        {name} cogread window .. --whole [--level N] ..
-       {name} cogread .. http://HOST[:PORT]/NAME .. [--close]
+       {name} cogread window .. --bounds W S E N [--level N] ..
+       {name} cogread .. http://HOST[:PORT]/PATH[?QUERY] .. [--close]
+       {name} cogread .. [--header 'NAME: VALUE']..
        {name} cogread .. FILE ..
        {name} cogread .. [--output FILE] [--verbose | --progress]
+       {name} cogread window .. --output FILE --world
        {name} cogworld [--pieces N] SCRIPT
        {name} --version
 

@@ -1,6 +1,6 @@
 //! Why a program ends early.
 use clap::error::ErrorKind;
-use cog_client::{ClientError, Why};
+use cog_client::{ClientError, FieldError, UrlError, Why};
 use cog_server::PublishError;
 use command_lines::FileUrlError;
 use http_range::Memory;
@@ -9,6 +9,7 @@ use read_progress::WhySentence;
 use scripts::ScriptError;
 use std::alloc::AllocError;
 use std::{fmt, io};
+use text_description::NoPixels;
 use text_report::ExplainedFault;
 use tiff_dir::FileFault;
 
@@ -23,6 +24,18 @@ pub enum Exit {
     CommandLine(clap::Error),
     /// A word of the command line isn't a number of its range.
     NotANumber(String),
+    /// A word of a rectangle isn't a finite number.
+    NotACoordinate(String),
+    /// The west side of a rectangle is greater than the east side, or the south side than the north side.
+    NoRectangle,
+    /// A rectangle gives no window of the file that is read, for this reason.
+    NoWindow(NoPixels),
+    /// A world file is asked for, and the file that is read doesn't say where its pixels lie.
+    NoWorld,
+    /// A word of `--header` isn't `NAME: VALUE`. It isn't printed, since it may be a secret.
+    NoFieldLine,
+    /// The field line of this name isn't added to requests, for this reason. Its value isn't printed.
+    NotAField(String, FieldError),
     /// A word of the command line isn't `NAME=PATH`.
     NotAFile(String),
     /// A word of the command line isn't an origin.
@@ -39,8 +52,10 @@ pub enum Exit {
     Refused(PublishError, String),
     /// No client of the host and name is made.
     RefusedClient(ClientError),
-    /// This URL names no file of a server.
+    /// This word names no file of a server.
     NotAFileUrl(String, FileUrlError),
+    /// No client of this URL is made.
+    RefusedUrl(String, UrlError),
     /// The report is this fault of the file.
     OfFile(FileFault),
     /// The report is this fault of a file that a URL or a path names. The program's line explains it.
@@ -80,11 +95,18 @@ impl Exit {
             | Exit::NotAProgram(_)
             | Exit::CommandLine(_)
             | Exit::NotANumber(_)
+            | Exit::NotACoordinate(_)
+            | Exit::NoRectangle
+            | Exit::NoWindow(_)
+            | Exit::NoWorld
             | Exit::NotAFile(_)
             | Exit::NotAnOrigin(_)
             | Exit::OneName(_, _, _)
             | Exit::RefusedClient(_)
             | Exit::NotAFileUrl(_, _)
+            | Exit::RefusedUrl(_, _)
+            | Exit::NoFieldLine
+            | Exit::NotAField(_, _)
             | Exit::Script(ScriptError::NotAnEvent(_)) => 2,
             Exit::OfFile(_) => 3,
             Exit::Explained(_) => 3,
@@ -154,6 +176,24 @@ impl fmt::Display for ExitLine<'_> {
             Exit::NotAProgram(word) => write!(f, "{program}: not a program: {word}"),
             Exit::CommandLine(error) => write!(f, "{error}"),
             Exit::NotANumber(word) => write!(f, "{program}: not a number: {word}"),
+            Exit::NotACoordinate(word) => write!(
+                f,
+                "{program}: not a number: {word}. Give --bounds W S E N: four numbers in the file's own coordinates"
+            ),
+            Exit::NoRectangle => write!(
+                f,
+                "{program}: no rectangle: W is greater than E, or S than N. Give --bounds W S E N"
+            ),
+            Exit::NoWindow(why) => write!(f, "{program}: no window: {why}"),
+            Exit::NoWorld => write!(
+                f,
+                "{program}: no world file: the file doesn't say where its pixels lie. Leave --world out"
+            ),
+            Exit::NoFieldLine => write!(
+                f,
+                "{program}: no field line: it has no colon. Give --header 'NAME: VALUE'"
+            ),
+            Exit::NotAField(name, error) => write!(f, "{program}: no field line: {name}: {error}"),
             Exit::NotAFile(word) => write!(f, "{program}: not a file: {word}"),
             Exit::NotAnOrigin(word) => write!(f, "{program}: not an origin: {word}"),
             Exit::OneName(name, first, second) => write!(
@@ -166,7 +206,8 @@ impl fmt::Display for ExitLine<'_> {
                 write!(f, "{program}: refused {} {name}", refusal.number())
             }
             Exit::RefusedClient(refusal) => write!(f, "{program}: refused {}", refusal.number()),
-            Exit::NotAFileUrl(word, error) => write!(f, "{program}: not a place: {word}: {error}"),
+            Exit::NotAFileUrl(word, error) => write!(f, "{program}: can't read {word}: {error}"),
+            Exit::RefusedUrl(word, error) => write!(f, "{program}: can't read {word}: {error}"),
             Exit::OfFile(fault) => match fault.tag() {
                 Some(tag) => write!(f, "{program}: fault {} {tag}", fault.number()),
                 None => write!(f, "{program}: fault {}", fault.number()),
@@ -219,6 +260,8 @@ impl From<ReadError> for Exit {
             ReadError::OfFile(fault) => Exit::OfFile(fault),
             ReadError::NoReport => Exit::NoReport,
             ReadError::NotUsed(why) => Exit::NotUsed(why),
+            ReadError::NoWindow(why) => Exit::NoWindow(why),
+            ReadError::NoWorld => Exit::NoWorld,
             ReadError::Memory => Exit::Memory,
         }
     }

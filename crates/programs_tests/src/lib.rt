@@ -11,7 +11,7 @@
 //! | `cogserve: can't read PATH`, `cogserve: refused K NAME`, `cogserve: can't listen` | 1 | `serves`; 5 of the refusals in `faults` |
 //! | `cogserve: can't accept` | 1 | `server_files_tests` |
 //! | why it ends, with a log (`--log`) | 1 | `serves`; the lines of the log in `server_files_tests` |
-//! | `cogread: refused K`, `cogread: not a place: URL: ..` | 2 | `read_faults` |
+//! | `cogread: refused K`, `cogread: can't read URL: ..` | 2 | `read_faults` |
 //! | each exchange, and why there is no window (`--verbose`) | | `cogread_tests` |
 //! | how far the exchanges have come (`--progress`) | | `cogread_tests` |
 //! | what a file is, in words and in JSON (`describe`) | 0 | `cogread_tests` |

@@ -50,7 +50,7 @@ taken_all (Ok t) x came P before after old new is (stands, all) = all
 taken_all (Err e) x came P before after old new is none = cc
 
 -- where memory was wanting
-pub stopped_some : (came : Coming) (old new : ClientState) → StopsFetching came old new → StopsFetching Anything old new
+stopped_some : (came : Coming) (old new : ClientState) → StopsFetching came old new → StopsFetching Anything old new
 stopped_some came old new (n, mid, are, stops) = (n, mid, fetches_anything came n old mid are, stops_anything came mid new stops)
 
 pub stopped : {T E : Type 0} (r : Result T E) (e : E) (came : Coming) (old new : ClientState) → r ≡ Err e → OnErr r (StopsFetching came old new) → StopsFetching Anything old new

@@ -1,3 +1,3 @@
 pub mod OpenLemmas
-pub mod WholeLemmas
+pub mod PartLemmas
 pub mod FetchLemmas

@@ -1,5 +1,5 @@
 -- What exchanges for what is asked keep and do, and when they end.
-use Rattle.std.specs.Prelude.{◌≡◌, ◌≢◌, ◌≤◌, ◌⊎◌, ℕ, zero, suc, Bool, true, Some, IfSome, IsSome, IsSomeAnd, ⊤}
+use Rattle.std.specs.Prelude.{◌≡◌, ◌≢◌, ◌≤◌, ◌⊎◌, ℕ, zero, suc, Bool, true, Option, Some, IfSome, IsSome, IsSomeAnd, ⊤}
 use Rattle.tiff_dir.specs.declared.query.Query.{Query}
 use Rattle.tiff_dir.specs.declared.query.Query.TheVariants.{Window, Info}
 use Rattle.tiff_dir.specs.declared.query.Pick.TheVariants.{Level}
@@ -10,24 +10,40 @@ use Rattle.cog_client.specs.Keeps.{OpensKeeping}
 use Rattle.cog_client.specs.Transport.{Anything, FetchesSome, ReadsBook, StopsFetching}
 use Rattle.read_progress.specs.declared.noted.Noted.{Noted}
 use Rattle.read_progress.specs.Noted.{IsRefused}
+use Rattle.text_description.specs.Covering.{IsOfLevel}
+use Rattle.text_description.specs.declared.world.WorldFile.{WorldFile}
+use Rattle.read_command.specs.declared.part.Area.{Area}
+use Rattle.read_command.specs.declared.part.Area.TheVariants as area
+use Rattle.read_command.specs.declared.part.Part.{Part}
 use Rattle.read_command.specs.declared.error.ReadError.{ReadError}
 use Rattle.read_command.specs.declared.error.ReadError.TheVariants.{Memory, NotUsed}
 use Rattle.read_command.specs.declared.reading.Asked.{Asked}
 use Rattle.read_command.specs.declared.reading.Asked.TheVariants as asked
-use Rattle.read_command.specs.Text.{IsFor, StaysWithin, TellsSides}
+use Rattle.read_command.specs.Text.{IsFor, GivesWindow, StaysWithin}
 
 -- the client still reads each book that it read and that the source spoke for
 abbrev pub StillReads : (Book → Type 0) → (Book → Type 0) → ClientState → ClientState → Type 0
 StillReads before after old new = (book : Book) → ReadsBook before old book → ReadsBook after new book
 
--- Where a report stands, its query is one for what is asked of the file of the book that has the tag which it tells.
-abbrev pub AsksOf : Book → Asked → ClientState → Type 0
-AsksOf book a c = IfSome (report_of c) (λ r. (p : Publication) → In p book → p.tag ≡ r.tag → IfSome (query_of c) (IsFor p.file a))
+-- Where a report stands, its query is one for what is asked of the file of the book that has the tag which it tells, with this world file.
+abbrev pub AsksOf : Book → Asked → ClientState → Option WorldFile → Type 0
+AsksOf book a c world =
+    IfSome (report_of c) (λ r. (p : Publication) → In p book → p.tag ≡ r.tag → IfSome (query_of c) (λ q. IsFor p.file a q world))
 
--- The query is asked for what is asked of a file: for a whole level Info, or a window of that level from its first sample on.
+-- what is asked is read by one query
+abbrev pub IsAtOnce : Asked → Type 0
+IsAtOnce a = (part : Part) → a ≢ asked.Part part
+
+-- The query is for a window of the level, which for the whole of it begins at its first sample.
+abbrev pub IsWindowFor : Area → (level : ℕ) → Query → Type 0
+IsWindowFor area.Whole level q = (width height : ℕ) × q ≡ Window 0 0 width height (Level level)
+IsWindowFor (area.Bounds b) level q = IsOfLevel level q
+IsWindowFor (area.Pixels x y w h) level q = q ≡ Window x y w h (Level level)
+
+-- The query is asked for what is asked of a file: for a part of a level Info, or a window of that level.
 abbrev pub IsAskedFor : Asked → Query → Type 0
 IsAskedFor (asked.Query query) q = q ≡ query
-IsAskedFor (asked.Whole level) q = (q ≡ Info) ⊎ ((width height : ℕ) × q ≡ Window 0 0 width height (Level level))
+IsAskedFor (asked.Part part) q = (q ≡ Info) ⊎ IsWindowFor part.area part.level q
 IsAskedFor (asked.Description form) q = q ≡ Info
 
 -- So many queries for what is asked are put one after another, and exchanged for, and nothing else is done to the client.
@@ -48,13 +64,13 @@ StopsReading a old new = (mid opened : ClientState) × (query : Query) × IsAske
 -- ---- answers that aren't used
 
 -- A URL names the file, and at most one exchange was begun, whose answer isn't used for this reason, which is expected to stay.
-pub record IsUnused {P : Type 0} (is_url : Bool) (before after : ℕ) (noted : Noted P) (why : Why) : Type 0 where
+pub record IsUnused {R P : Type 0} (is_url : Bool) (before after : ℕ) (noted : Noted R P) (why : Why) : Type 0 where
   pub asked : is_url ≡ true
   pub few : StaysWithin 1 before after
   pub refused : IsRefused why noted
 
 -- so it is where this error tells of such an answer; else memory is wanting
-abbrev pub EndsUnused : {P : Type 0} → (is_url : Bool) → (before after : ℕ) → Noted P → ReadError → Type 0
+abbrev pub EndsUnused : {R P : Type 0} → (is_url : Bool) → (before after : ℕ) → Noted R P → ReadError → Type 0
 EndsUnused is_url before after noted (NotUsed why) = IsUnused is_url before after noted why
 EndsUnused is_url before after noted Memory = ⊤
 EndsUnused is_url before after noted error = ⊥
@@ -75,13 +91,13 @@ FindsReplaced a (suc n) old new = (mid told : ClientState)
 abbrev pub IsReplacedOften : Asked → (most : ℕ) → ClientState → ClientState → Type 0
 IsReplacedOften a most old new = (n : ℕ) × (mid : ClientState) × (most ≤ n) × FindsReplaced a n old mid × ReadsSome a mid new
 
--- a report stands, and not one of Info that only tells sides
-abbrev pub AnswersWhole : (level : ℕ) → ClientState → Type 0
-AnswersWhole level c = IsSomeAnd (report_of c) (λ r. query_of c ≡ Some Info → TellsSides (asked.Whole level) r.outcome → ⊥)
+-- a report stands, and not one of Info that only gives a window
+abbrev pub AnswersPart : Part → ClientState → Type 0
+AnswersPart part c = IsSomeAnd (report_of c) (λ r. query_of c ≡ Some Info → GivesWindow (asked.Part part) r.outcome → ⊥)
 
--- The exchanges end where all are used up, or a report stands; those for a whole level only where one stands that tells more than sides, or where
--- the file was replaced as often as there may be exchanges.
+-- The exchanges end where all are used up, or a report stands; those for a part of a level only where one stands that does more than give its
+-- window, or where the file was replaced as often as there may be exchanges.
 abbrev pub Ends : Asked → (most count : ℕ) → (old new : ClientState) → Type 0
-Ends (asked.Whole level) most count old new =
-    (most ≤ count) ⊎ (AnswersWhole level new ⊎ IsReplacedOften (asked.Whole level) most old new)
+Ends (asked.Part part) most count old new =
+    (most ≤ count) ⊎ (AnswersPart part new ⊎ IsReplacedOften (asked.Part part) most old new)
 Ends a most count old new = (most ≤ count) ⊎ IsSome (report_of new)

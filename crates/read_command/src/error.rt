@@ -1,6 +1,7 @@
 //! Why there is no text of a file.
 use cog_client::{FetchError, Why};
 use extents::Memory;
+use text_description::NoPixels;
 use tiff_dir::FileFault;
 
 /// Says why there is no text of a file.
@@ -12,6 +13,10 @@ pub enum ReadError {
     NoReport,
     /// The first answer isn't used for this reason, and no later one is expected to be.
     NotUsed(Why),
+    /// The rectangle that is asked for gives no window of the file, for this reason.
+    NoWindow(NoPixels),
+    /// A world file is asked for, and the file doesn't say where its pixels lie.
+    NoWorld,
     /// No memory was left.
     Memory,
 }

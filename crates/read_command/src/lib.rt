@@ -2,9 +2,11 @@
 #![tactic(auto)]
 
 mod error;
+mod part;
 mod reading;
 mod text;
 
 pub use error::ReadError;
-pub use reading::{Asked, Exchanges, Verbosity};
+pub use part::{Area, Given, NotGiven, Part};
+pub use reading::{Asked, Exchanges};
 pub use text::Text;

@@ -1,5 +1,5 @@
-//! How `cogread` reads: its exchanges, which `--verbose` prints and `--progress` draws, and what is asked of the file.
-ghost use Rattle.std.specs.Prelude.{◌≡◌, ◌≢◌, ℕ, ◌+◌, ◌<◌, ◌≤◌, ◌^◌, ◌⊎◌, false, true, Err, IfErr, IfOk, IfSome, IsSome, IsSomeAnd, List, None, OnErr, OnOk, Option, Some, min, slice_get};
+//! How `cogread` reads: how many exchanges it makes, what is asked of the file, and the text of its report.
+ghost use Rattle.std.specs.Prelude.{◌≡◌, ◌≢◌, ℕ, ◌+◌, ◌<◌, ◌≤◌, ◌^◌, ◌⊎◌, false, true, Err, IfErr, IfOk, IfSome, IsSome, IsSomeAnd, List, None, OnErr, OnOk, Option, Some, min};
 ghost use Rattle.tiff_dir.specs.declared.query.Query.TheVariants.{Info as AnInfo};
 ghost use Rattle.http_range.specs.Book.{Book, HasDistinctTags};
 ghost use Rattle.http_range.specs.declared.reading.Why.{Why};
@@ -11,57 +11,44 @@ ghost use Rattle.cog_client.specs.Transport.{Anything, FetchesAll, FetchesSome, 
 ghost use Rattle.cog_fetch.specs.Takes.{TakenOf};
 ghost use Rattle.read_progress.specs.Noted.{IsRefused, source_of};
 ghost use Rattle.read_command.specs.declared.error.ReadError.TheVariants.{NoReport, NotUsed};
-ghost use Rattle.read_command.specs.declared.reading.Asked.TheVariants.{Whole};
-ghost use Rattle.read_command.specs.Exchanges.{AsksOf, Ends, EndsUnused, IsAskedFor, IsUnused, ReadsSome, StillReads, StopsReading};
-ghost use Rattle.read_command.specs.Text.{HasNothing, IsOfFile, IsOfWholeBy, IsWritten, StaysWithin, TellsSides, WritesTrue};
+ghost use Rattle.read_command.specs.declared.reading.Asked.TheVariants.{Part as APart};
+ghost use Rattle.read_command.specs.Exchanges.{AsksOf, Ends, EndsUnused, IsAtOnce, IsUnused, IsWindowFor, ReadsSome, StillReads, StopsReading};
+ghost use Rattle.read_command.specs.Text.{GivesWindow, HasNothing, IsOfFile, IsOfPartBy, IsWritten, StaysWithin, WritesTrue};
 
 use crate::error::ReadError;
+use crate::part::{Given, NotGiven, Part};
 use crate::text::Text;
-use cog_client::{Client, FetchError, Info, Outcome, Pieces, Query, Report, Tag, Why};
+use cog_client::{Client, FetchError, Outcome, Pieces, Query, Report, Tag, Why};
 use cog_fetch::fetch_pieces;
 use http_range::law_fronts_are_read;
-use read_progress::{Noted, NotedNet, exchanges_drawn, exchanges_told};
+use read_progress::{Noted, Verbosity};
 use std::rt::Clock;
-use text_description::{Description, Form};
+use text_description::{Description, Form, WorldFile};
 use text_report::{FaultSentence, info_text, picture_head};
-use tiff_dir::Pick;
 
 /// Says what is asked of a file.
 #[derive(Clone, Copy, Debug)]
 pub enum Asked {
     /// The answer to a query.
     Query(Query),
-    /// The whole of a level.
-    Whole { level: u32 },
+    /// A part of a level. Info is read first, since it says which window that is.
+    Part(Part),
     /// What the file says of itself.
     Description(Form),
 }
 
-/// Says what is printed of exchanges on standard error.
-#[derive(Clone, Copy, Debug, PartialEq, Eq)]
-pub enum Verbosity {
-    /// Nothing.
-    Nothing,
-    /// A line for each exchange, and why there is no text.
-    Each,
-    /// The progress of the exchanges, as one line that is drawn over itself.
-    Progress,
-}
-
-/// Holds how exchanges are made: at most `requests` in all, and `verbosity` says what is printed of them.
+/// Holds how exchanges are made: at most `requests` in all.
 #[derive(Drop)]
-pub struct Exchanges<'a, 'r, R> {
+pub struct Exchanges<'a, R> {
     pub rt: &'a R,
-    pub net: &'a NotedNet<'r, R>,
     pub requests: u32,
-    pub verbosity: Verbosity,
     /// Whether a URL names the file. Then the first answer ends the exchanges, if no later one is expected to be used. The program's line
     /// explains a fault then, and so nothing else does.
     pub is_url: bool,
 }
 
 /// Returns how many of `requests` exchanges are left.
-fn left<P: Pieces>(noted: &Noted<P>, requests: u32) -> u32
+fn left<R: Eprint + Clock, P: Pieces>(noted: &Noted<'_, '_, R, P>, requests: u32) -> u32
     ensures counted { P.count (source_of noted.now) + result < 2 ^ 64 }
     ensures few { StaysWithin requests (P.count (source_of noted.now)) (P.count (source_of noted.now) + result) }
     ensures all { requests ≤ P.count (source_of noted.now) + result }
@@ -74,9 +61,13 @@ fn left<P: Pieces>(noted: &Noted<P>, requests: u32) -> u32
     }
 }
 
-impl<R: Eprint + Clock + AllocGlobal> Exchanges<'_, '_, R> {
+impl<R: Eprint + Clock + AllocGlobal> Exchanges<'_, R> {
     /// Makes exchanges until a report stands, or none is left. What is known already needs none.
-    fn fetch<P: Pieces>(&self, client: &mut Client, noted: &mut Noted<P>) -> Result<(), FetchError>
+    fn fetch<P: Pieces>(
+        &self,
+        client: &mut Client,
+        noted: &mut Noted<'_, '_, R, P>,
+    ) -> Result<(), FetchError>
         ensures keeps { KeepsReading (P.speaks_for (source_of noted.old)) (P.speaks_for (source_of noted.new)) client.old client.new }
         ensures few { StaysWithin self.now.requests (P.count (source_of noted.old)) (P.count (source_of noted.new)) }
         ensures ends { OnOk result ((self.now.requests ≤ P.count (source_of noted.new)) ⊎ IsIdle client.new) }
@@ -97,68 +88,56 @@ impl<R: Eprint + Clock + AllocGlobal> Exchanges<'_, '_, R> {
             client.request()?;
             return Ok(());
         }
-        match self.verbosity {
-            Verbosity::Nothing => {
-                fetch_pieces(client, noted, left)?;
-            }
-            Verbosity::Each => exchanges_told(self.rt, self.net, client, noted, left)?,
-            Verbosity::Progress => exchanges_drawn(self.rt, client, noted, left)?,
-        }
+        fetch_pieces(client, noted, left)?;
         Ok(())
     }
 
-    /// Reads the sides of a level, and then the whole of it. Where the file was replaced between, it begins again.
-    fn fetch_whole<P: Pieces>(
+    /// Reads Info, and then the window that a part of a level is by it. Where the file was replaced between, it begins again. Where Info
+    /// gives no window or no world file, it ends with Info. Returns the world file of the window, if one is asked for.
+    fn fetch_part<P: Pieces>(
         &self,
         client: &mut Client,
-        noted: &mut Noted<P>,
-        level: u32,
-    ) -> Result<(), FetchError>
+        noted: &mut Noted<'_, '_, R, P>,
+        part: Part,
+    ) -> Result<Option<WorldFile>, FetchError>
         ensures reads { StillReads (P.speaks_for (source_of noted.old)) (P.speaks_for (source_of noted.new)) client.old client.new }
         ensures asks { (book : Book) → ReadsBook (P.speaks_for (source_of noted.old)) client.old book
-            → OnOk result (AsksOf book (Whole level) client.new) }
+            → IfOk result (AsksOf book (APart part) client.new) }
         ensures few { StaysWithin self.now.requests (P.count (source_of noted.old)) (P.count (source_of noted.new)) }
 
-        ensures ends { OnOk result (Ends (Whole level) self.now.requests (P.count (source_of noted.new)) client.old client.new) }
+        ensures ends { OnOk result (Ends (APart part) self.now.requests (P.count (source_of noted.new)) client.old client.new) }
 
         // `queries`: queries for what is asked are opened one after another, with exchanges for each, and nothing else is done to the
         // client. `stops`: where no memory was left, that was in the exchanges for the last of them.
-        ensures queries { OnOk result (ReadsSome (Whole level) client.old client.new) }
-        ensures stops { OnErr result (StopsReading (Whole level) client.old client.new) }
+        ensures queries { OnOk result (ReadsSome (APart part) client.old client.new) }
+        ensures stops { OnErr result (StopsReading (APart part) client.old client.new) }
     {
         for _ in 0..self.requests {
             client.open(Query::Info);
             self.fetch(client, noted)?;
-            let Some((tag, window)) = whole_of(client, level) else {
-                return Ok(());
+            let Some((tag, given)) = given_told(client, part) else {
+                return Ok(None);
             };
-            client.open(window);
+            client.open(given.window);
             self.fetch(client, noted)?;
             if !has_another_tag(client, &tag) {
-                return Ok(());
+                return Ok(given.world);
             }
         }
         client.open(Query::Info);
-        Ok(())
+        Ok(None)
     }
 
-    /// Ends the line that is drawn.
-    fn end_line(&self) {
-        if self.verbosity == Verbosity::Progress {
-            let _ = eprintln!(self.rt; "");
-        }
-    }
-
-    /// Reads what is asked over `noted`.
+    /// Reads what is asked over `noted`. Returns the world file of a window, if one is asked for.
     fn fetch_asked<P: Pieces>(
         &self,
         client: &mut Client,
-        noted: &mut Noted<P>,
+        noted: &mut Noted<'_, '_, R, P>,
         asked: Asked,
-    ) -> Result<(), FetchError>
+    ) -> Result<Option<WorldFile>, FetchError>
         ensures reads { StillReads (P.speaks_for (source_of noted.old)) (P.speaks_for (source_of noted.new)) client.old client.new }
         ensures asks { (book : Book) → ReadsBook (P.speaks_for (source_of noted.old)) client.old book
-            → OnOk result (AsksOf book asked client.new) }
+            → IfOk result (AsksOf book asked client.new) }
         ensures few { StaysWithin self.now.requests (P.count (source_of noted.old)) (P.count (source_of noted.new)) }
         ensures ends { OnOk result (Ends asked self.now.requests (P.count (source_of noted.new)) client.old client.new) }
 
@@ -170,17 +149,18 @@ impl<R: Eprint + Clock + AllocGlobal> Exchanges<'_, '_, R> {
         let query = match asked {
             Asked::Query(query) => query,
             Asked::Description(_) => Query::Info,
-            Asked::Whole { level } => return self.fetch_whole(client, noted, level),
+            Asked::Part(part) => return self.fetch_part(client, noted, part),
         };
         client.open(query);
-        self.fetch(client, noted)
+        self.fetch(client, noted)?;
+        Ok(None)
     }
 
     /// Makes the first exchange, if one is allowed. Returns why its answer isn't used, where no later one is expected to be.
     fn first_refusal<P: Pieces>(
         &self,
         client: &mut Client,
-        noted: &mut Noted<P>,
+        noted: &mut Noted<'_, '_, R, P>,
         asked: Asked,
     ) -> Result<Option<Why>, FetchError>
         ensures reads { StillReads (P.speaks_for (source_of noted.old)) (P.speaks_for (source_of noted.new)) client.old client.new }
@@ -189,9 +169,7 @@ impl<R: Eprint + Clock + AllocGlobal> Exchanges<'_, '_, R> {
     {
         let first = Exchanges {
             rt: self.rt,
-            net: self.net,
             requests: self.requests.min(1),
-            verbosity: self.verbosity,
             is_url: self.is_url,
         };
         first.fetch_asked(client, noted, asked)?;
@@ -203,7 +181,7 @@ impl<R: Eprint + Clock + AllocGlobal> Exchanges<'_, '_, R> {
     fn begin<P: Pieces>(
         &self,
         client: &mut Client,
-        noted: &mut Noted<P>,
+        noted: &mut Noted<'_, '_, R, P>,
         asked: Asked,
     ) -> Result<(), ReadError>
         ensures reads { StillReads (P.speaks_for (source_of noted.old)) (P.speaks_for (source_of noted.new)) client.old client.new }
@@ -221,43 +199,43 @@ impl<R: Eprint + Clock + AllocGlobal> Exchanges<'_, '_, R> {
     }
 
     /// Reads what is asked over `noted`. Where a URL names the file, the first answer ends it, if no later one is expected to be used.
+    /// Returns the world file of a window, if one is asked for.
     fn fetch_used<P: Pieces>(
         &self,
         client: &mut Client,
-        noted: &mut Noted<P>,
+        noted: &mut Noted<'_, '_, R, P>,
         asked: Asked,
-    ) -> Result<(), ReadError>
+    ) -> Result<Option<WorldFile>, ReadError>
         ensures reads { StillReads (P.speaks_for (source_of noted.old)) (P.speaks_for (source_of noted.new)) client.old client.new }
         ensures asks { (book : Book) → ReadsBook (P.speaks_for (source_of noted.old)) client.old book
-            → OnOk result (AsksOf book asked client.new) }
+            → IfOk result (AsksOf book asked client.new) }
         ensures few { StaysWithin self.now.requests (P.count (source_of noted.old)) (P.count (source_of noted.new)) }
-        ensures ends { ((level : ℕ) → asked ≢ Whole level) → OnOk result
+        ensures ends { IsAtOnce asked → OnOk result
             ((self.now.requests ≤ P.count (source_of noted.new)) ⊎ IsSome (report_of client.new)) }
         ensures refused { IfErr result (EndsUnused self.now.is_url (P.count (source_of noted.old)) (P.count (source_of noted.new))
             noted.new) }
     {
         self.begin(client, noted, asked)?;
-        self.fetch_asked(client, noted, asked)?;
-        Ok(())
+        Ok(self.fetch_asked(client, noted, asked)?)
     }
 
     /// Reads what is asked over `noted`, and returns its text: a picture, whose samples the client lends, the lines of Info, or a
-    /// description. It prints exchanges, and why there is no text, as `verbosity` says. Fails with `OfFile` where the report is a fault,
-    /// and with `NoReport` where no report has what is asked. Fails with `NotUsed` where a URL names the file and the first answer can't be
-    /// used, and with `Memory` where no memory is left.
+    /// description. It prints why there is no text, as the verbosity of `noted` says. Fails with `OfFile` where the report is a fault, and
+    /// with `NoReport` where no report has what is asked. Fails with `NoWindow` where a rectangle gives no window of the file. Fails with
+    /// `NotUsed` where a URL names the file and the first answer can't be used, and with `Memory` where no memory is left.
     pub fn text<'c, P: Pieces>(
         &self,
         client: &'c mut Client,
-        noted: &mut Noted<P>,
+        noted: &mut Noted<'_, '_, R, P>,
         asked: Asked,
     ) -> Result<Text<'c>, ReadError>
         // What is written is true of one publication of each book that the client reads and the source speaks for.
         ensures truth { (book : Book)
             → ReadsBook (P.speaks_for (source_of noted.old)) client.old book → WritesTrue (name_of client.old) book asked result }
         // The source counts at most `requests` exchanges, unless it counted more before. `NoReport` is returned only after all of them, but
-        // for a whole level, which is read by several queries.
+        // for a part of a level, which is read by several queries.
         ensures few { StaysWithin self.now.requests (P.count (source_of noted.old)) (P.count (source_of noted.new)) }
-        ensures none { ((level : ℕ) → asked ≢ Whole level) → result ≡ Err NoReport
+        ensures none { IsAtOnce asked → result ≡ Err NoReport
             → self.now.requests ≤ P.count (source_of noted.new) }
         // `NotUsed` is returned only where a URL names the file, after one exchange at most, and gives the reason of the answer that came
         // then.
@@ -265,14 +243,22 @@ impl<R: Eprint + Clock + AllocGlobal> Exchanges<'_, '_, R> {
             → IsUnused self.now.is_url (P.count (source_of noted.old)) (P.count (source_of noted.new)) noted.new why }
     {
         let fetched = self.fetch_used(client, noted, asked);
-        self.end_line();
-        fetched?;
-        self.text_at(client, asked)
+        noted.end_line();
+        let world = fetched?;
+        match self.text_at(client, asked, noted.verbosity()) {
+            Ok(text) => Ok(Text { world, ..text }),
+            Err(error) => Err(error),
+        }
     }
 
-    /// Returns the text of the report that stands. Fails with `NoReport` only where none stands, or where it has the sides of a level that
-    /// is asked for as a whole.
-    fn text_at<'c>(&self, client: &'c Client, asked: Asked) -> Result<Text<'c>, ReadError>
+    /// Returns the text of the report that stands. Fails with `NoReport` only where none stands, or where it is one of Info that gives the
+    /// window of what is asked.
+    fn text_at<'c>(
+        &self,
+        client: &'c Client,
+        asked: Asked,
+        verbosity: Verbosity,
+    ) -> Result<Text<'c>, ReadError>
         ensures written { IsOfFile result
             → (r : Report) × Stands client.now (Some r) × IsWritten asked r.tag r.outcome result }
         ensures left { result ≡ Err NoReport → HasNothing asked (report_of client.now) }
@@ -281,15 +267,15 @@ impl<R: Eprint + Clock + AllocGlobal> Exchanges<'_, '_, R> {
         ensures used { (why : Why) → result ≢ Err (NotUsed why) }
     {
         let Some(report) = client.report() else {
-            self.tell_no_report();
+            self.tell_no_report(verbosity);
             return Err(ReadError::NoReport);
         };
-        self.text_of(client, report, asked)
+        self.text_of(client, report, asked, verbosity)
     }
 
     /// Prints that no report stands, where each exchange is printed.
-    fn tell_no_report(&self) {
-        if self.verbosity == Verbosity::Each {
+    fn tell_no_report(&self, verbosity: Verbosity) {
+        if verbosity == Verbosity::Each {
             let requests = self.requests;
             let _ = eprintln!(self.rt;
                 "cogread: no report, and --requests allows no more than {requests}"
@@ -303,6 +289,7 @@ impl<R: Eprint + Clock + AllocGlobal> Exchanges<'_, '_, R> {
         client: &Client,
         report: &'c Report,
         asked: Asked,
+        verbosity: Verbosity,
     ) -> Result<Text<'c>, ReadError>
         requires { report_of client.now ≡ Some report.now }
         ensures written { IsWritten asked report.now.tag report.now.outcome result }
@@ -313,6 +300,7 @@ impl<R: Eprint + Clock + AllocGlobal> Exchanges<'_, '_, R> {
             Outcome::Window(window) => Ok(Text {
                 head: picture_head(alloc, window)?,
                 samples: &window.pixels,
+                world: None,
             }),
             Outcome::Info(info) => match asked {
                 Asked::Query(_) => Ok(Text::from(info_text(alloc, &report.tag, info)?)),
@@ -322,10 +310,14 @@ impl<R: Eprint + Clock + AllocGlobal> Exchanges<'_, '_, R> {
                     }
                     None => Err(ReadError::NoReport),
                 },
-                Asked::Whole { .. } => Err(ReadError::NoReport),
+                Asked::Part(part) => match part.given(info) {
+                    Ok(_) => Err(ReadError::NoReport),
+                    Err(NotGiven::NoWindow(why)) => Err(ReadError::NoWindow(why)),
+                    Err(NotGiven::NoWorld) => Err(ReadError::NoWorld),
+                },
             },
             Outcome::Fault(fault) => {
-                if self.verbosity == Verbosity::Each && !self.is_url {
+                if verbosity == Verbosity::Each && !self.is_url {
                     let _ = eprintln!(self.rt; "cogread: {}", FaultSentence(*fault));
                 }
                 Err(ReadError::OfFile(*fault))
@@ -334,32 +326,26 @@ impl<R: Eprint + Clock + AllocGlobal> Exchanges<'_, '_, R> {
     }
 }
 
-/// Returns the columns and rows of a level, or of one pixel where there is no such level.
-fn level_sides(info: &Info, level: u32) -> (u32, u32)
-    ensures { IfSome (slice_get info.now.sides.items level) (λ sides. sides ≡ result) }
-{
-    info.sides.get(level as usize).copied().unwrap_or((1, 1))
-}
-
-/// Returns the ETag of a client's report of Info, and the window that is the whole of a level by that report. Where the level isn't there,
-/// the window isn't, either. Returns `None` where no report of Info stands.
-#[tactic(auto, using(crate::proofs::WholeLemmas::whole_told))]
-fn whole_of(client: &Client, level: u32) -> Option<(Tag, Query)>
-    ensures whole { (book : Book) → HasDistinctTags book → ClientAgrees client.now book
-        → IfSome result (λ whole. IsOfWholeBy book whole.0 level whole.1) }
-    ensures asked { IfSome result (λ whole. IsAskedFor (Whole level) whole.1) }
-    ensures window { IfSome result (λ whole. whole.1 ≢ AnInfo) }
-    ensures told { IfSome result (λ whole. IsSomeAnd (report_of client.now) (λ r. r.tag ≡ whole.0)) }
-    ensures none { result ≡ None → IfSome (report_of client.now) (λ r. TellsSides (Whole level) r.outcome → ⊥) }
+/// Returns the ETag of a client's report of Info, and what that gives for a part of a level. Where the level isn't there, the window isn't,
+/// either. Returns `None` where no report of Info stands, and where it gives no window or no world file.
+#[tactic(auto, using(crate::proofs::PartLemmas::gives_none, crate::proofs::PartLemmas::window_other))]
+fn given_told(client: &Client, part: Part) -> Option<(Tag, Given)>
+    ensures given { (book : Book) → HasDistinctTags book → ClientAgrees client.now book
+        → IfSome result (λ told. IsOfPartBy book told.0 part told.1.window told.1.world) }
+    ensures asked { IfSome result (λ told. IsWindowFor part.area part.level told.1.window) }
+    ensures window { IfSome result (λ told. told.1.window ≢ AnInfo) }
+    ensures told { IfSome result (λ told. IsSomeAnd (report_of client.now) (λ r. r.tag ≡ told.0)) }
+    ensures none { result ≡ None → IfSome (report_of client.now) (λ r. GivesWindow (APart part) r.outcome → ⊥) }
 {
     law_fronts_are_read();
     let report = client.report()?;
     let Outcome::Info(info) = &report.outcome else {
         return None;
     };
-    let (w, h) = level_sides(info, level);
-    let (x, y, pick) = (0, 0, Pick::Level(level));
-    Some((report.tag.copy(), Query::Window { x, y, w, h, pick }))
+    match part.given(info) {
+        Ok(given) => Some((report.tag.copy(), given)),
+        Err(_) => None,
+    }
 }
 
 /// Returns whether a client's report has another ETag than `tag`. It has none where no report stands.

@@ -4,6 +4,7 @@ ghost use Rattle.std.specs.Io.KnownBytes.{Appends};
 
 use std::io;
 use std::io::Write;
+use text_description::WorldFile;
 
 /// Holds what `cogread` writes: a text, and after it the samples of a window, where the text is the head of its picture. The samples are
 /// the client's.
@@ -11,6 +12,8 @@ use std::io::Write;
 pub struct Text<'c> {
     pub head: Vec<u8>,
     pub samples: &'c [u8],
+    /// The world file that is written beside a picture, if one is asked for.
+    pub world: Option<WorldFile>,
 }
 
 impl Text<'_> {
@@ -32,6 +35,7 @@ impl From<Vec<u8>> for Text<'_> {
         Text {
             head: text,
             samples: &[],
+            world: None,
         }
     }
 }

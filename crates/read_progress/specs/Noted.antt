@@ -1,40 +1,66 @@
 -- What others know of a source whose exchanges are noted.
-use Rattle.std.specs.Prelude.{◌≡◌, ◌⊎◌, ◌-◌, ◌<◌, ◌++◌, ℕ, Bool, true, false, List, Ok, Err, length, min, take}
+use Rattle.std.specs.Prelude.{◌≡◌, ◌⊎◌, ◌+◌, ◌-◌, ◌<◌, ◌++◌, ℕ, Bool, true, false, if◌then◌else◌, nat_lt, List, [], Ok, Err, Some, codes, length, min, take}
+use Rattle.http_fields.specs.Fields.{only, values_of}
 use Rattle.http_range.specs.Announced.{announced}
 use Rattle.http_range.specs.Reading.{ReadsHead}
+use Rattle.http_range.specs.Seen.{HasRequest, SeenRequest}
 use Rattle.http_range.specs.declared.reading.Why.{Why}
 use Rattle.read_progress.specs.Lasting.{is_lasting}
 use Rattle.read_progress.specs.declared.noted.Came.{Came}
 use Rattle.read_progress.specs.declared.noted.Came.TheVariants.{Brought, Nothing, NotUsed, Unsent}
 use Rattle.read_progress.specs.declared.noted.Noted.{Noted}
+use Rattle.read_progress.specs.declared.noted.Progress.{Progress}
 
-module _ {P : Type 0} where
+-- a sum of numbers of 64 bits, the greatest of them where it has no room
+abbrev sum : ℕ → ℕ → ℕ
+sum a b = min (a + b) 18446744073709551615
+
+-- bytes of a file came
+abbrev brings : Came → Bool
+brings (Brought head count) = nat_lt 0 count
+brings came = false
+
+-- Of the request the value of its only Range field is noted; nothing where it has none, or memory is wanting.
+abbrev pub NotesRange : List ℕ → List ℕ → Type 0
+NotesRange request range =
+    (range ≡ [])
+    ⊎ ((seen : SeenRequest) × HasRequest request (Some seen) × (only (values_of (codes "range") seen.fields) ≡ Some range))
+
+module _ {R P : Type 0} where
   -- the source whose exchanges are noted
-  abbrev pub source_of : Noted P → P
+  abbrev pub source_of : Noted R P → P
   source_of s = s.source
 
   -- what is noted of the last exchange: whether its request was sent, how many bytes came, and the first of them
-  abbrev pub sent_of : Noted P → Bool
+  abbrev pub sent_of : Noted R P → Bool
   sent_of s = s.is_sent
 
-  abbrev pub bytes_of : Noted P → ℕ
+  abbrev pub bytes_of : Noted R P → ℕ
   bytes_of s = s.bytes
 
-  abbrev pub front_of : Noted P → List ℕ
+  abbrev pub front_of : Noted R P → List ℕ
   front_of s = s.front.items
 
+  -- the Range field of the last request
+  abbrev pub range_of : Noted R P → List ℕ
+  range_of s = s.range.items
+
+  -- what the exchanges before the last one brought
+  abbrev pub before_of : Noted R P → Progress
+  before_of s = s.before
+
   -- Where the front is all that came, the bytes are noted behind it, as far as a head may go, or without memory none of them. Else it stays.
-  abbrev pub NotesOf : List ℕ → Noted P → Noted P → Type 0
+  abbrev pub NotesOf : List ℕ → Noted R P → Noted R P → Type 0
   NotesOf bytes old new =
       ((bytes_of old ≡ length (front_of old)) × (front_of new ≡ front_of old ++ take (4096 - length (front_of old)) bytes))
       ⊎ (front_of new ≡ front_of old)
 
   -- bytes came, of which this is read
-  abbrev pub Has : Noted P → Type 0
+  abbrev pub Has : Noted R P → Type 0
   Has s = (sent_of s ≡ true) × (0 < bytes_of s)
 
   -- what came of the last exchange; of a body no more than its head announces
-  abbrev pub HasCome : Noted P → Came → Type 0
+  abbrev pub HasCome : Noted R P → Came → Type 0
   HasCome s Unsent = sent_of s ≡ false
   HasCome s Nothing = (sent_of s ≡ true) × (bytes_of s ≡ 0)
   HasCome s (NotUsed why) = Has s × ReadsHead (front_of s) (Err why)
@@ -42,5 +68,16 @@ module _ {P : Type 0} where
       Has s × ReadsHead (front_of s) (Ok (announced head)) × (count ≡ min (bytes_of s - head.size) head.length)
 
   -- the last answer isn't used for this reason, nor will the next one be
-  abbrev pub IsRefused : Why → Noted P → Type 0
+  abbrev pub IsRefused : Why → Noted R P → Type 0
   IsRefused why s = HasCome s (NotUsed why) × (is_lasting why ≡ true)
+
+  -- what all exchanges brought: before the last one, and by it
+  abbrev pub HasBrought : Noted R P → Progress → Type 0
+  HasBrought s all = (came : Came) × HasCome s came
+      × (all.had ≡ sum (before_of s).had (if brings came then 1 else 0))
+      × (all.asked ≡ (before_of s).asked)
+      × (all.bytes ≡ sum (before_of s).bytes (bytes_of s))
+
+  -- one more range is asked for, and nothing has come of it yet
+  abbrev pub AsksMore : Noted R P → Noted R P → Type 0
+  AsksMore old new = (all : Progress) × HasBrought old all × (before_of new ≡ record all { asked = sum all.asked 1 })

@@ -2,15 +2,13 @@
 #![tactic(auto)]
 
 mod clock;
-mod drawn;
 mod line;
 mod network;
 mod noted;
+mod printing;
 mod sentences;
-mod told;
 
-pub use drawn::exchanges_drawn;
 pub use network::NotedNet;
 pub use noted::{Came, Noted, Progress};
+pub use printing::{Printing, Verbosity};
 pub use sentences::{RefusalSentence, WhySentence, is_lasting};
-pub use told::exchanges_told;

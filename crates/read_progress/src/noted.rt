@@ -2,12 +2,15 @@
 ghost use Rattle.std.specs.Prelude.{◌≡◌, ◌+◌, [], IfSome, false, length, min};
 ghost use Rattle.std.specs.Char.{is_ascii_digit};
 ghost use Rattle.std.specs.List.{AllPass};
-ghost use Rattle.read_progress.specs.Noted.{HasCome, IsRefused, NotesOf, bytes_of, front_of, sent_of, source_of};
+ghost use Rattle.read_progress.specs.Noted.{AsksMore, HasBrought, HasCome, IsRefused, NotesOf, NotesRange, before_of, bytes_of, front_of, range_of, sent_of, source_of};
 
+use crate::clock::moment;
+use crate::printing::{Printing, Verbosity};
 use crate::sentences::is_lasting;
-use cog_client::{Lost, Pieces, Why};
+use cog_client::{Client, Lost, Pieces, Tag, Why};
 use http_range::{Head, HeadReading, read_head, read_request};
 use std::alloc::Global;
+use std::rt::Clock;
 
 /// The most bytes that are noted of an answer: those that a head may have.
 const FRONT_ROOM: usize = 4096;
@@ -36,10 +39,16 @@ pub struct Progress {
     pub bytes: u64,
 }
 
-/// Passes requests to another source, and its answers back, and notes both. It speaks for what the other source speaks for.
+/// Passes requests to another source, and its answers back, and notes both. It speaks for what the other source speaks for. It prints
+/// what is noted after each exchange.
 #[derive(Drop)]
-pub struct Noted<P> {
+pub struct Noted<'a, 'r, R, P> {
     source: P,
+    pub(crate) printing: Printing<'a, 'r, R>,
+    /// When the last exchange began.
+    since: u64,
+    /// The ETag of the revision that the client read then.
+    tag: Option<Tag>,
     is_sent: bool,
     range: Vec<u8>,
     front: Vec<u8>,
@@ -48,9 +57,17 @@ pub struct Noted<P> {
     before: Progress,
 }
 
-impl<P> Noted<P> {
+/// Returns the ETag of the revision that a client reads, if it reads one.
+pub(crate) fn tag_of(client: &Client) -> Option<Tag> {
+    match client.tag() {
+        Some(tag) => Some(tag.copy()),
+        None => None,
+    }
+}
+
+impl<'a, 'r, R, P> Noted<'a, 'r, R, P> {
     /// Makes one over `source`. Nothing is noted yet.
-    pub fn new(alloc: Global, source: P) -> Noted<P>
+    pub fn new(alloc: Global, source: P, printing: Printing<'a, 'r, R>) -> Self
         ensures source { source_of result ≡ source }
         ensures sent { sent_of result ≡ false }
         ensures bytes { bytes_of result ≡ 0 }
@@ -58,6 +75,9 @@ impl<P> Noted<P> {
     {
         Noted {
             source,
+            printing,
+            since: 0,
+            tag: None,
             is_sent: false,
             range: Vec::new(alloc),
             front: Vec::new(alloc),
@@ -70,8 +90,28 @@ impl<P> Noted<P> {
         }
     }
 
+    /// Returns what is printed of exchanges.
+    pub fn verbosity(&self) -> Verbosity {
+        self.printing.verbosity
+    }
+
+    /// Returns the moment at which the last exchange began, in milliseconds.
+    pub(crate) fn since(&self) -> u64 {
+        self.since
+    }
+
+    /// Returns the ETag of the revision that the client read before the last exchange, if it read one.
+    pub(crate) fn tag_before(&self) -> Option<Tag> {
+        match &self.tag {
+            Some(tag) => Some(tag.copy()),
+            None => None,
+        }
+    }
+
     /// Returns the value of the last request's Range field, as `bytes=0-65535`.
-    pub(crate) fn range(&self) -> &[u8] {
+    pub(crate) fn range(&self) -> &[u8]
+        ensures { result.now ≡ range_of self.now }
+    {
         &self.range
     }
 
@@ -89,7 +129,9 @@ impl<P> Noted<P> {
     }
 
     /// Returns the number of bytes that came of the last answer, with its head.
-    pub(crate) fn bytes(&self) -> u64 {
+    pub(crate) fn bytes(&self) -> u64
+        ensures { result ≡ bytes_of self.now }
+    {
         self.bytes
     }
 
@@ -124,7 +166,9 @@ impl<P> Noted<P> {
     }
 
     /// Returns what all exchanges have brought.
-    pub fn progress(&self) -> Progress {
+    pub fn progress(&self) -> Progress
+        ensures { HasBrought self.now result }
+    {
         let Progress { had, asked, bytes } = self.before;
         let has_come = matches!(self.came(), Came::Brought(_, 1..));
         Progress {
@@ -141,6 +185,8 @@ impl<P> Noted<P> {
         ensures sent { sent_of self.new ≡ false }
         ensures bytes { bytes_of self.new ≡ 0 }
         ensures front { front_of self.new ≡ [] }
+        ensures range { NotesRange request.now (range_of self.new) }
+        ensures before { AsksMore self.old self.new }
     {
         self.before = self.progress();
         self.before.asked = self.before.asked.saturating_add(1);
@@ -162,6 +208,8 @@ impl<P> Noted<P> {
         ensures sent { sent_of self.new ≡ sent_of self.old }
         ensures bytes { bytes_of self.new ≡ min (bytes_of self.old + length piece.now) 18446744073709551615 }
         ensures front { NotesOf piece.now self.old self.new }
+        ensures range { range_of self.new ≡ range_of self.old }
+        ensures before { before_of self.new ≡ before_of self.old }
     {
         if self.bytes == self.front.len() as u64 {
             let room = FRONT_ROOM.saturating_sub(self.front.len());
@@ -172,11 +220,11 @@ impl<P> Noted<P> {
     }
 }
 
-impl<P: Pieces> Pieces for Noted<P> {
+impl<R: Eprint + Clock, P: Pieces> Pieces for Noted<'_, '_, R, P> {
     ghost use Rattle.std.specs.Prelude.{◌≡◌, ◌+◌, ◌<◌, ◌≤◌, ◌^◌, [], IfOk, IsTrue, OnErr, OnOk, is_ok, length, min, take};
     ghost use Rattle.cog_client.specs.Pieces.{BringsOf};
     ghost use Rattle.cog_client.specs.Transport.{AnswersOn, IsTrueToAll, OrLost, SpeaksOn};
-    ghost use Rattle.read_progress.specs.Noted.{NotesOf, bytes_of, front_of, sent_of, source_of};
+    ghost use Rattle.read_progress.specs.Noted.{AsksMore, NotesOf, NotesRange, before_of, bytes_of, front_of, range_of, sent_of, source_of};
 
     ghost speaks_for = { λ s. P.speaks_for (source_of s) };
 
@@ -195,6 +243,8 @@ impl<P: Pieces> Pieces for Noted<P> {
         ensures sent { sent_of self.new ≡ is_ok result }
         ensures bytes { bytes_of self.new ≡ 0 }
         ensures front { front_of self.new ≡ [] }
+        ensures range { NotesRange request.now (range_of self.new) }
+        ensures before { AsksMore self.old self.new }
 
         // It keeps the trait's law.
         ensures answered { OnOk result (P.answers (source_of self.old) request.now (P.rest (source_of self.new))) }
@@ -220,6 +270,8 @@ impl<P: Pieces> Pieces for Noted<P> {
         ensures bytes { IfOk result (λ n. bytes_of self.new ≡ min (bytes_of self.old + n) 18446744073709551615) }
         ensures front { IfOk result (λ n. NotesOf (take n out.new) self.old self.new) }
         ensures lost { OnErr result ((bytes_of self.new ≡ bytes_of self.old) × (front_of self.new ≡ front_of self.old)) }
+        ensures range { range_of self.new ≡ range_of self.old }
+        ensures before { before_of self.new ≡ before_of self.old }
 
         // It keeps the trait's law.
         ensures fits { IfOk result (λ n. n ≤ length out.new) }
@@ -234,6 +286,21 @@ impl<P: Pieces> Pieces for Noted<P> {
         let count = self.source.next(out)?;
         self.note_piece(&out[..count]);
         Ok(count)
+    }
+
+    fn exchange_begins(&mut self, client: &Client, request: &[u8]) {
+        self.since = moment(self.printing.rt);
+        self.tag = tag_of(client);
+        self.source.exchange_begins(client, request);
+    }
+
+    fn exchange_ends(&mut self, client: &Client) {
+        self.source.exchange_ends(client);
+        match self.printing.verbosity {
+            Verbosity::Nothing => {}
+            Verbosity::Each => self.print_line(client),
+            Verbosity::Progress => self.draw(),
+        }
     }
 
     fn foresee(&mut self, requests: &[Vec<u8>]) {

@@ -3,7 +3,7 @@ ghost use Rattle.std.specs.Prelude.{◌≡◌, ◌≤◌, ℕ, [], OnOk, max};
 ghost use Rattle.cog_server.specs.Service.{added_of};
 ghost use Rattle.server_files.specs.Publishing.{ArePublishedAnew, KeepsOthersThan, names};
 ghost use Rattle.server_sockets.specs.Going.{AllWentOnOrStart};
-ghost use Rattle.server_sockets.specs.Places.{accepted_of, limits_of, places_of};
+ghost use Rattle.server_sockets.specs.Slots.{accepted_of, limits_of, slots_of};
 
 use crate::access_log::AccessLog;
 use crate::clock::moment;
@@ -73,7 +73,7 @@ fn round<R: Files + Clock + Print + Eprint + AllocGlobal>(
     // Each connection in the table went on from one that was there, or is new, as of some moment. Each answer is from what was published
     // before, with what is added.
     ensures went { (now : ℕ) × AllWentOnOrStart (record { catalogue = server.old.catalogue; added = added_of additions.entry }) now
-        (places_of serving.old) (places_of serving.new) }
+        (slots_of serving.old) (slots_of serving.new) }
     ensures limits { limits_of serving.new ≡ limits_of serving.old }
     // Files are published anew in their order, each with other bytes than before, and none where no connection was accepted.
     ensures anew { ArePublishedAnew (names files.old) server.old server.new }
@@ -100,7 +100,7 @@ fn serve_rounds<R>(
 ) -> Result<(), ServeFilesError<'static>>
 where
     R: Files + Clock + Print + Eprint + AllocGlobal,
-    ensures over { OnOk result (((limits_of serving.new).connections ≤ accepted_of serving.new) × (places_of serving.new ≡ [])) }
+    ensures over { OnOk result (((limits_of serving.new).connections ≤ accepted_of serving.new) × (slots_of serving.new ≡ [])) }
     ensures limits { limits_of serving.new ≡ limits_of serving.old }
     ensures others { KeepsOthersThan (names files.old) server.old server.new }
     ensures names { names files.new ≡ names files.old }

@@ -1,7 +1,7 @@
 pub mod EventLemmas
 pub mod GoingLemmas
-pub mod PlacesLemmas
-pub mod PlaceLemmas
+pub mod SlotLemmas
+pub mod YieldLemmas
 pub mod RefusalLemmas
 pub mod RunLemmas
 pub mod TurnLemmas

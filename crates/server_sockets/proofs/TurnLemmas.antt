@@ -2,10 +2,10 @@
 use Rattle.std.proofs.Common.{◌≡◌, ◌∙◌, ◌⊎◌, ◌↔◌, ℕ, Bool, true, false, subst, inl, inr}
 use Rattle.std.specs.Prelude.{IsTrue}
 use Rattle.server_connections.specs.declared.table.Connections.{Connections}
-use Rattle.server_sockets.specs.Turns.{KeepsPlaces}
+use Rattle.server_sockets.specs.Turns.{KeepsSlots}
 
 -- what two steps keep, both together do
-pub keeps_on : (k : ℕ) (a b c : Connections) → KeepsPlaces k a b → KeepsPlaces k b c → KeepsPlaces k a c
+pub keeps_on : (k : ℕ) (a b c : Connections) → KeepsSlots k a b → KeepsSlots k b c → KeepsSlots k a c
 keeps_on k a b c first then = record {
   here = then.here ∙ first.here;
   others = λ other ne. then.others other ne ∙ first.others other ne;

@@ -37,11 +37,11 @@ pub record WentOn (service : ServiceState) (now : ℕ) (old new : Timed) : Type 
   pub progress : new.progress ≡ (if list_any is_progress events then now else old.progress)
   pub tried : new.tried ≡ (if list_any is_try events then now else old.tried)
 
--- who has a place had it, and went on from there by events of its own, each answer by this service
+-- who has a slot had it, and went on from there by events of its own, each answer by this service
 pub record AllWentOn (service : ServiceState) (now : ℕ) (old new : Table) : Type 0 where
   pub each : (k : ℕ) (p : Timed) → timed_at k new ≡ Some p → IsSomeAnd (timed_at k old) (λ before. WentOn service now before p)
 
--- who has a place went on so, or starts at this moment
+-- who has a slot went on so, or starts at this moment
 pub record AllWentOnOrStart (service : ServiceState) (now : ℕ) (old new : Table) : Type 0 where
   pub each : (k : ℕ) (p : Timed) → timed_at k new ≡ Some p
       → IsSomeAnd (timed_at k old) (λ before. WentOn service now before p) ⊎ HasStartedAt k now new
@@ -55,7 +55,7 @@ pub record HasRun (s : Status) : Type 0 where
   pub status : s ≡ (run events none_yet).status
   pub alone : IsAnsweredAlone (run events none_yet)
 
--- each that has a place did
+-- each that has a slot did
 abbrev pub AllHaveRun : Table → Type 0
 AllHaveRun table = (k : ℕ) (p : Timed) → timed_at k table ≡ Some p → HasRun p.connection
 

@@ -1,4 +1,4 @@
-pub mod Places
+pub mod Slots
 pub mod Refusals
 pub mod Turns
 pub mod Draining

@@ -8,14 +8,14 @@ use Rattle.server_connections.specs.declared.table.Connections.{Connections}
 use Rattle.server_connections.specs.Table.{Table, OthersStay, timed_at}
 use Rattle.server_connections.specs.Yielding.{IsUntried, Yields}
 
--- every connection but k is as it was, k has its place or none as before, there may be as many, and the next number is the same
-pub record KeepsPlaces (k : ℕ) (old new : Connections) : Type 0 where
+-- every connection but k is as it was, k has its slot or none as before, there may be as many, and the next number is the same
+pub record KeepsSlots (k : ℕ) (old new : Connections) : Type 0 where
   pub here : is_some (timed_at k new.table.entries) ≡ is_some (timed_at k old.table.entries)
   pub others : OthersStay k old.table.entries new.table.entries
   pub cap : new.table.cap ≡ old.table.cap
   pub next : new.next ≡ old.next
 
--- connection k has its place, and starts at this moment: nothing came on it, and its progress is counted from now on
+-- connection k has its slot, and starts at this moment: nothing came on it, and its progress is counted from now on
 abbrev pub HasStartedAt : ℕ → ℕ → Table → Type 0
 HasStartedAt k now table = timed_at k table ≡ Some (record { connection = start; progress = now; tried = now })
 
@@ -35,17 +35,17 @@ IsDrainedAt k table = IfSome (timed_at k table) (λ p. IsTrue (is_drained p.conn
 abbrev pub IsTriedAt : ℕ → ℕ → Table → Type 0
 IsTriedAt now k table = IfSome (timed_at k table) (λ p. p.tried ≡ now)
 
--- of those whose socket is to be tried at this moment, the one that was tried the longest ago is tried, or has lost its place
+-- of those whose socket is to be tried at this moment, the one that was tried the longest ago is tried, or has lost its slot
 abbrev pub TriesOne : ℕ → ℕ → Table → Table → Type 0
 TriesOne now patience old new =
     (found : Option ℕ) × IsUntried now patience old found × IfSome found (λ k. IsTriedAt now k new)
 
--- at a moment a connection whose place a newcomer takes is taken away, and no other
-abbrev pub GivesPlace : ℕ → ℕ → Table → Table → Type 0
-GivesPlace now patience old new =
+-- at a moment a connection whose slot a newcomer takes is taken away, and no other
+abbrev pub GivesSlot : ℕ → ℕ → Table → Table → Type 0
+GivesSlot now patience old new =
     (k : ℕ) × Yields now patience old (Some k) × (new ≡ remove_entry (nat_eq k) old)
 
--- a connection has a socket exactly as long as it has a place, and it is the one of its number
+-- a connection has a socket exactly as long as it has a slot, and it is the one of its number
 pub record HaveSockets {ConnectionSocket S : Type 0} (number_of : ConnectionSocket → ℕ) (sockets : HashMap ℕ ConnectionSocket S) (table : Table) : Type 0 where
-  pub placed : (k : ℕ) → is_some (get nat_eq sockets k) ≡ is_some (timed_at k table)
+  pub paired : (k : ℕ) → is_some (get nat_eq sockets k) ≡ is_some (timed_at k table)
   pub own : (k : ℕ) (socket : ConnectionSocket) → get nat_eq sockets k ≡ Some socket → number_of socket ≡ k

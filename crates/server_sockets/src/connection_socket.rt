@@ -9,7 +9,7 @@ ghost use Rattle.cog_server.specs.Received.{after_read};
 ghost use Rattle.cog_server.specs.Service.{service_of};
 ghost use Rattle.cog_server.specs.Status.{room_of};
 ghost use Rattle.server_connections.specs.Table.{Changes, GoesOnAt, timed_after_write, timed_at};
-ghost use Rattle.server_sockets.specs.Turns.{KeepsPlaces};
+ghost use Rattle.server_sockets.specs.Turns.{KeepsSlots};
 
 use cog_server::Service;
 use http_range::Memory;
@@ -82,7 +82,7 @@ pub fn write_some(
         connections.old.table.entries connections.new.table.entries) }
     ensures err { OnErr result (Changes socket.now.number (timed_after_write 0 now)
         connections.old.table.entries connections.new.table.entries) }
-    ensures kept { KeepsPlaces socket.now.number connections.old connections.new }
+    ensures kept { KeepsSlots socket.now.number connections.old connections.new }
 {
     write_to(connections, socket.number, &mut &socket.stream, most, now)
 }
@@ -105,7 +105,7 @@ fn write_to<W: WriteSlices>(
     // What is written is the front of what waits, byte by byte.
     ensures order { IfSome (timed_at number connections.old.table.entries)
         (λ p. WriteAppends (W.contents writer.old) (W.contents writer.new) result p.connection.waiting) }
-    ensures kept { KeepsPlaces number connections.old connections.new }
+    ensures kept { KeepsSlots number connections.old connections.new }
 {
     let Some(timed) = connections.get(number) else {
         return Ok(0);
@@ -141,7 +141,7 @@ pub fn read_some(
         (λ p. record p { connection = after_read (take n buffer.new) p.connection })
         connections.old.table.entries connections.new.table.entries) }
     ensures err { OnErr result (Changes socket.now.number (λ p. p) connections.old.table.entries connections.new.table.entries) }
-    ensures kept { KeepsPlaces socket.now.number connections.old connections.new }
+    ensures kept { KeepsSlots socket.now.number connections.old connections.new }
 {
     let number = socket.number;
     let mut stream = &socket.stream;
@@ -171,7 +171,7 @@ pub fn answer(
     ensures err { OnErr result (Changes number (λ p. p) connections.old.table.entries connections.new.table.entries) }
     // Only memory may be short.
     ensures memory { IfErr result (λ error. error_kind error ≡ OutOfMemory) }
-    ensures kept { KeepsPlaces number connections.old connections.new }
+    ensures kept { KeepsSlots number connections.old connections.new }
 {
     match connections.go_on(number, service, now) {
         Ok(status) => Ok(status),

@@ -20,7 +20,7 @@ fn queue(number: u64, open_connections: &mut OpenConnections, ready: &mut VecDeq
     ensures queued { IsQueued number ready.new.items open_connections.old open_connections.new }
     ensures marked { (k : ℕ) → IsReadyAt k open_connections.new → (k ≡ number) ⊎ IsReadyAt k open_connections.old }
     ensures kept { (k : ℕ) → Contains ready.old.items k → Contains ready.new.items k }
-    ensures places { (k : ℕ) → timed_at k open_connections.old.connections.table.entries ≡ None
+    ensures slots { (k : ℕ) → timed_at k open_connections.old.connections.table.entries ≡ None
         → timed_at k open_connections.new.connections.table.entries ≡ None }
     ensures same { (k : ℕ) (p : Timed) → timed_at k open_connections.new.connections.table.entries ≡ Some p
         → timed_at k open_connections.old.connections.table.entries ≡ Some p }
@@ -45,7 +45,7 @@ pub fn note(
     ensures heard { IsTrue result ↔ Contains (sockets_of (items events.now)) LISTENER.0 }
     ensures queued { (k : ℕ) → Contains (sockets_of (items events.now)) k → k ≢ LISTENER.0
         → IsQueued k ready.new.items open_connections.old open_connections.new }
-    ensures places { (k : ℕ) → timed_at k open_connections.old.connections.table.entries ≡ None
+    ensures slots { (k : ℕ) → timed_at k open_connections.old.connections.table.entries ≡ None
         → timed_at k open_connections.new.connections.table.entries ≡ None }
     ensures same { (k : ℕ) (p : Timed) → timed_at k open_connections.new.connections.table.entries ≡ Some p
         → timed_at k open_connections.old.connections.table.entries ≡ Some p }

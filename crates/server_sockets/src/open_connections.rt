@@ -1,4 +1,4 @@
-//! The connections that have a place, with their sockets.
+//! The connections that have a slot, with their sockets.
 ghost use Rattle.std.specs.Prelude.{◌≡◌, ◌≢◌, ◌⊎◌, ◌↔◌, ◌+◌, ◌<◌, ◌≤◌, ◌^◌, ℕ, [], IfOk, IfSome, IsSome, IsSomeAnd, IsTrue, None, OnErr, OnOk, Some, false, length, nat_eq, true};
 ghost use Rattle.std.specs.Map.{remove_entry};
 ghost use Rattle.std.specs.NonZero.{non_zero_usize_get};
@@ -8,7 +8,7 @@ ghost use Rattle.server_connections.specs.Table.{OthersStay, timed_at};
 ghost use Rattle.server_connections.specs.declared.timed.Timed.{Timed};
 ghost use Rattle.server_connections.specs.Yielding.{FreesAt, IsFirstOverdue, IsUntried, MayYield, TriesAt, WakesAt, Yields, is_overdue};
 ghost use Rattle.server_sockets.specs.Going.{AllWentOn};
-ghost use Rattle.server_sockets.specs.Turns.{HasEndedAt, HasStartedAt, HaveSockets, IsDrainedAt, IsOpenAt, IsTriedAt, KeepsPlaces};
+ghost use Rattle.server_sockets.specs.Turns.{HasEndedAt, HasStartedAt, HaveSockets, IsDrainedAt, IsOpenAt, IsTriedAt, KeepsSlots};
 ghost use Rattle.server_sockets.specs.declared.turn.Turn.TheVariants.{Ended, GoesOn, Waits};
 
 use crate::answer_log::{AnswerLog, ConnectionLog, UnansweredInput};
@@ -38,8 +38,8 @@ struct Peer {
 }
 
 /// Returns whether there is a slot for one more connection.
-fn has_place(connections: &Connections) -> bool
-    ensures place { IsTrue result ↔ (length connections.now.table.entries < connections.now.table.cap) }
+fn has_slot(connections: &Connections) -> bool
+    ensures slot { IsTrue result ↔ (length connections.now.table.entries < connections.now.table.cap) }
     ensures bound { length connections.now.table.entries ≤ connections.now.table.cap }
 {
     connections.count() < connections.table.cap().get()
@@ -52,21 +52,21 @@ pub struct OpenConnections {
     pub connections: Connections,
     peers: HashMap<u64, Peer>,
     ended: u32,
-    ghost placed: { HaveSockets (λ p. p.socket.number) peers connections.table.entries },
+    ghost paired: { HaveSockets (λ p. p.socket.number) peers connections.table.entries },
 }
 
 impl OpenConnections {
     ghost use Rattle.server_sockets.specs.Draining.{DrainsAt, IsFresh, IsReadyAt};
 
-    /// Makes it without a connection, and with `places` slots.
-    pub fn new(alloc: Global, places: NonZeroUsize) -> Result<Self, Memory>
+    /// Makes it without a connection, and with `slots` slots.
+    pub fn new(alloc: Global, slots: NonZeroUsize) -> Result<Self, Memory>
         ensures none { IfOk result (λ o. o.connections.table.entries ≡ []) }
-        ensures places { IfOk result (λ o. o.connections.table.cap ≡ non_zero_usize_get places) }
+        ensures slots { IfOk result (λ o. o.connections.table.cap ≡ non_zero_usize_get slots) }
         ensures ended { IfOk result (λ o. o.ended ≡ 0) }
     {
         Ok(OpenConnections {
             alloc,
-            connections: Connections::new(alloc, places)?,
+            connections: Connections::new(alloc, slots)?,
             peers: HashMap::new(alloc),
             ended: 0,
         })
@@ -87,11 +87,11 @@ impl OpenConnections {
     }
 
     /// Returns whether there is a slot for one more connection.
-    pub fn has_place(&self) -> bool
-        ensures place { IsTrue result ↔ (length self.now.connections.table.entries < self.now.connections.table.cap) }
+    pub fn has_slot(&self) -> bool
+        ensures slot { IsTrue result ↔ (length self.now.connections.table.entries < self.now.connections.table.cap) }
         ensures bound { length self.now.connections.table.entries ≤ self.now.connections.table.cap }
     {
-        has_place(&self.connections)
+        has_slot(&self.connections)
     }
 
     /// Returns the number of the connection that is closed for a new one at moment `now`, or `None`. A connection without progress for
@@ -195,7 +195,7 @@ impl OpenConnections {
         ensures cap { self.new.connections.table.cap ≡ self.old.connections.table.cap }
         ensures more { length self.new.connections.table.entries ≤ length self.old.connections.table.entries + 1 }
     {
-        if !has_place(&self.connections) {
+        if !has_slot(&self.connections) {
             return Err(io::Error::from(io::ErrorKind::Other));
         }
         let (mut stream, client) = newcomer;
@@ -290,7 +290,7 @@ impl OpenConnections {
     /// Tries at moment `now` to write to the socket of connection `number`.
     #[tactic(auto, using(crate::proofs::GoingLemmas::all_still, crate::proofs::GoingLemmas::none_tried))]
     pub fn try_socket(&mut self, number: u64, now: u64) -> Turn
-        ensures kept { KeepsPlaces number self.old.connections self.new.connections }
+        ensures kept { KeepsSlots number self.old.connections self.new.connections }
         ensures went { (service : ServiceState) → AllWentOn service now self.old.connections.table.entries
             self.new.connections.table.entries }
         ensures tried { IsTriedAt now number self.new.connections.table.entries }
@@ -313,7 +313,7 @@ impl OpenConnections {
         now: u64,
         log: &mut A,
     ) -> Turn
-        ensures kept { KeepsPlaces number self.old.connections self.new.connections }
+        ensures kept { KeepsSlots number self.old.connections self.new.connections }
         ensures went { AllWentOn (service_of service.now) now self.old.connections.table.entries self.new.connections.table.entries }
         ensures ended { result ≡ Ended → HasEndedAt number self.new.connections.table.entries
             ⊎ (DrainsAt number self.old × IsDrainedAt number self.new.connections.table.entries) }

@@ -9,9 +9,9 @@ ghost use Rattle.server_connections.specs.Yielding.{IsFirstOverdue};
 ghost use Rattle.mio.specs.Events.{capacity};
 ghost use Rattle.server_sockets.specs.Draining.{IsReadyAt, drain_of};
 ghost use Rattle.server_sockets.specs.Going.{AllWentOn};
-ghost use Rattle.server_sockets.specs.Places.{AllStart, IsLookedAt, IsWaitedFor, HasNoPlace, KeepsAll, KeepsBusy, MayKeepOld, NoneChanges, NobodyComes, NobodyYields, Rests, StayOrStart, accepted_of, ended_of, limits_of, next_of, places_of, room_of, WakesBy, WakesIn};
+ghost use Rattle.server_sockets.specs.Slots.{AllStart, IsLookedAt, IsWaitedFor, HasNoSlot, KeepsAll, KeepsBusy, MayKeepOld, NoneChanges, NobodyComes, NobodyYields, Rests, StayOrStart, accepted_of, ended_of, limits_of, next_of, slots_of, slot_count, WakesBy, WakesIn};
 ghost use Rattle.server_sockets.specs.Refusals.{HasNoRoom, IsBarred, IsLasting, IsOfAsking, IsPassing};
-ghost use Rattle.server_sockets.specs.Turns.{GivesPlace, HasStartedAt, TriesOne};
+ghost use Rattle.server_sockets.specs.Turns.{GivesSlot, HasStartedAt, TriesOne};
 ghost use Rattle.server_sockets.specs.declared.refusal.AcceptError.TheVariants.{Accept};
 ghost use Rattle.server_sockets.specs.declared.turn.Turn.TheVariants.{Ended, Failed, GoesOn, Waits};
 
@@ -82,10 +82,10 @@ impl Serving {
         listener: net::TcpListener,
         limits: Limits,
     ) -> io::Result<Self>
-        ensures none { IfOk result (λ s. (accepted_of s ≡ 0) × (ended_of s ≡ 0) × (places_of s ≡ [])) }
+        ensures none { IfOk result (λ s. (accepted_of s ≡ 0) × (ended_of s ≡ 0) × (slots_of s ≡ [])) }
         ensures rests { IfOk result Rests }
         ensures limits { IfOk result (λ s. limits_of s ≡ limits) }
-        ensures room { IfOk result (λ s. room_of s ≡ non_zero_usize_get limits.at_once) }
+        ensures room { IfOk result (λ s. slot_count s ≡ non_zero_usize_get limits.at_once) }
         // One wait may report each connection, and the listener.
         ensures events { non_zero_usize_get limits.at_once < 65536
             → IfOk result (λ s. capacity s.events ≡ non_zero_usize_get limits.at_once + 1) }
@@ -127,20 +127,20 @@ impl Serving {
 
     /// Returns whether all connections were accepted, and each is closed.
     pub fn is_over(&self) -> bool
-        ensures { IsTrue result ↔ ((limits_of self.now).connections ≤ accepted_of self.now) × (places_of self.now ≡ []) }
+        ensures { IsTrue result ↔ ((limits_of self.now).connections ≤ accepted_of self.now) × (slots_of self.now ≡ []) }
     {
         self.accepted >= self.limits.connections && self.open_connections.is_empty()
     }
 
     /// Accepts the connections in the listen backlog that get a slot at moment `now`, and returns how many. In all, no more are accepted
     /// than the limits allow. Fails where no connection can be accepted any more.
-    #[tactic(auto, using(crate::proofs::PlacesLemmas::accepting))]
+    #[tactic(auto, using(crate::proofs::SlotLemmas::accepting))]
     pub fn accept(&mut self, now: u64) -> Result<u32, AcceptError>
         ensures counted { IfOk result (λ count. accepted_of self.new ≡ accepted_of self.old + count) }
         ensures few { accepted_of self.old ≤ (limits_of self.old).connections
             → accepted_of self.new ≤ (limits_of self.old).connections }
         ensures limits { limits_of self.new ≡ limits_of self.old }
-        ensures room { room_of self.new ≡ room_of self.old }
+        ensures room { slot_count self.new ≡ slot_count self.old }
         ensures ended { ended_of self.old ≤ ended_of self.new }
         ensures last { IfErr result IsLasting }
 
@@ -148,13 +148,13 @@ impl Serving {
         ensures quiet { self.old.accept_pending ≡ false → self.new ≡ self.old }
         ensures full { (limits_of self.old).connections ≤ accepted_of self.old → self.new ≡ self.old }
         // Nothing changes where there is no slot for another connection.
-        ensures waits { HasNoPlace now self.old → self.new ≡ self.old }
+        ensures waits { HasNoSlot now self.old → self.new ≡ self.old }
 
         // No connection loses its slot, but one that may lose it.
         ensures busy { KeepsBusy now self.old self.new }
         // Where there are more free slots than connections are accepted, none loses its slot.
         ensures spared { self.old.out_of_descriptors ≡ false
-            → length (places_of self.old) + (accepted_of self.new - accepted_of self.old) < room_of self.old
+            → length (slots_of self.old) + (accepted_of self.new - accepted_of self.old) < slot_count self.old
             → KeepsAll self.old self.new }
         // Each connection that has a slot is as it was, or starts at this moment.
         ensures newcomers { StayOrStart now self.old self.new }
@@ -172,20 +172,20 @@ impl Serving {
     /// Gives each connection that is ready its turn at moment `now`, and closes those whose drain ends. Each answer is logged in `log`.
     /// Closes those, too, that keep a replaced file's bytes without progress for the patience. Before a connection loses its slot, and
     /// while another one may wait, sockets are tried.
-    #[tactic(auto, using(crate::proofs::PlacesLemmas::taking_turns))]
+    #[tactic(auto, using(crate::proofs::SlotLemmas::taking_turns))]
     pub fn turns<A: AnswerLog>(&mut self, service: &Service<'_>, now: u64, log: &mut A)
         ensures nobody { NobodyComes self.old self.new }
         // Each connection that has a slot had it, and went on from there by events of its own. Each answer is by this service.
-        ensures went { AllWentOn (service_of service.now) now (places_of self.old) (places_of self.new) }
+        ensures went { AllWentOn (service_of service.now) now (slots_of self.old) (slots_of self.new) }
         // The first drain that is left hasn't ended yet.
         ensures over { IfSome (slice_get self.new.drains.items 0) (λ drain. now < drain.ends) }
         // Of the sockets that are to be tried after these turns, the one that was tried the longest ago is tried.
         ensures tried { self.old.accept_pending ≡ true → accepted_of self.old < (limits_of self.old).connections → (turned : Table)
-            × AllWentOn (service_of service.now) now (places_of self.old) turned
-            × TriesOne now (limits_of self.old).patience turned (places_of self.new) }
+            × AllWentOn (service_of service.now) now (slots_of self.old) turned
+            × TriesOne now (limits_of self.old).patience turned (slots_of self.new) }
         // No connection is left that keeps bytes of a replaced file, has made no progress for the patience, and whose socket takes none.
         ensures freed { MayKeepOld service.now.server.now.count self.old
-            → IsFirstOverdue (service_of service.now).catalogue now (limits_of self.old).patience (places_of self.new) None }
+            → IsFirstOverdue (service_of service.now).catalogue now (limits_of self.old).patience (slots_of self.new) None }
     {
         let may_keep_old = self.may_keep_old(service.server);
         let is_due = self.is_due(may_keep_old);
@@ -212,26 +212,27 @@ impl Serving {
     }
 
     /// Accepts the next connection, if one waits and gets a slot. Returns whether to try another one.
-    #[tactic(auto, using(crate::proofs::PlacesLemmas::accepting_one))]
+    #[tactic(auto, using(crate::proofs::SlotLemmas::accepting_one))]
     fn accept_next(&mut self, now: u64) -> Result<bool, AcceptError>
         ensures more { accepted_of self.old ≤ accepted_of self.new }
         ensures few { accepted_of self.old ≤ (limits_of self.old).connections
             → accepted_of self.new ≤ (limits_of self.old).connections }
         ensures limits { limits_of self.new ≡ limits_of self.old }
-        ensures room { room_of self.new ≡ room_of self.old }
+        ensures room { slot_count self.new ≡ slot_count self.old }
         ensures ended { ended_of self.old ≤ ended_of self.new }
         ensures last { IfErr result IsLasting }
         ensures quiet { self.old.accept_pending ≡ false → self.new ≡ self.old }
         ensures full { (limits_of self.old).connections ≤ accepted_of self.old → self.new ≡ self.old }
-        ensures waits { HasNoPlace now self.old → self.new ≡ self.old }
+        ensures waits { HasNoSlot now self.old → self.new ≡ self.old }
         ensures busy { KeepsBusy now self.old self.new }
-        ensures spared { self.old.out_of_descriptors ≡ false → length (places_of self.old) < room_of self.old → KeepsAll self.old self.new }
+        ensures spared { self.old.out_of_descriptors ≡ false → length (slots_of self.old) < slot_count self.old
+            → KeepsAll self.old self.new }
         ensures fed { IfOk result (λ again. again ≡ true → self.old.out_of_descriptors ≡ false → self.new.out_of_descriptors ≡ false) }
-        ensures places { length (places_of self.new) ≤ length (places_of self.old) + (accepted_of self.new - accepted_of self.old) }
+        ensures slots { length (slots_of self.new) ≤ length (slots_of self.old) + (accepted_of self.new - accepted_of self.old) }
         ensures newcomers { StayOrStart now self.old self.new }
         ensures numbers { next_of self.new ≤ next_of self.old + (accepted_of self.new - accepted_of self.old) }
     {
-        if !self.is_awaited() || !self.has_place(now) {
+        if !self.is_awaited() || !self.has_slot(now) {
             return Ok(false);
         }
         match self.listener.accept() {
@@ -244,35 +245,35 @@ impl Serving {
     }
 
     /// Returns whether there is a slot for another connection. Where none is free, an open connection may be closed for it.
-    fn has_place(&mut self, now: u64) -> bool
-        ensures free { length (places_of self.old) < room_of self.old → (result ≡ true) × (self.new ≡ self.old) }
-        ensures made { result ≡ true → length (places_of self.new) < room_of self.new }
-        ensures one { room_of self.old ≤ length (places_of self.old) → result ≡ true
-            → GivesPlace now (limits_of self.old).patience (places_of self.old) (places_of self.new) }
-        ensures no { result ≡ false → (self.new ≡ self.old) × HasNoPlace now self.old }
-        ensures waits { HasNoPlace now self.old → result ≡ false }
+    fn has_slot(&mut self, now: u64) -> bool
+        ensures free { length (slots_of self.old) < slot_count self.old → (result ≡ true) × (self.new ≡ self.old) }
+        ensures made { result ≡ true → length (slots_of self.new) < slot_count self.new }
+        ensures one { slot_count self.old ≤ length (slots_of self.old) → result ≡ true
+            → GivesSlot now (limits_of self.old).patience (slots_of self.old) (slots_of self.new) }
+        ensures no { result ≡ false → (self.new ≡ self.old) × HasNoSlot now self.old }
+        ensures waits { HasNoSlot now self.old → result ≡ false }
         ensures starved { self.new.out_of_descriptors ≡ self.old.out_of_descriptors }
         ensures same { NoneChanges self.old self.new }
-        ensures fewer { length (places_of self.new) ≤ length (places_of self.old) }
+        ensures fewer { length (slots_of self.new) ≤ length (slots_of self.old) }
         ensures nobody { NobodyComes self.old self.new }
         ensures busy { KeepsBusy now self.old self.new }
         ensures next { next_of self.new ≡ next_of self.old }
     {
-        self.open_connections.has_place() || self.displace(now)
+        self.open_connections.has_slot() || self.free_slot(now)
     }
 
     /// Closes the connection that yields its slot at moment `now`, and returns whether there was one.
-    fn displace(&mut self, now: u64) -> bool
-        requires { (room_of self.old ≤ length (places_of self.old)) ⊎ (self.old.out_of_descriptors ≡ true) }
-        ensures one { room_of self.old ≡ 1 → result ≡ false }
+    fn free_slot(&mut self, now: u64) -> bool
+        requires { (slot_count self.old ≤ length (slots_of self.old)) ⊎ (self.old.out_of_descriptors ≡ true) }
+        ensures one { slot_count self.old ≡ 1 → result ≡ false }
         ensures no { result ≡ false → (self.new ≡ self.old) × NobodyYields now self.old }
         ensures waits { NobodyYields now self.old → result ≡ false }
-        ensures taken { result ≡ true → length (places_of self.new) + 1 ≡ length (places_of self.old) }
+        ensures taken { result ≡ true → length (slots_of self.new) + 1 ≡ length (slots_of self.old) }
         ensures starved { self.new.out_of_descriptors ≡ self.old.out_of_descriptors }
         ensures same { NoneChanges self.old self.new }
-        ensures fewer { length (places_of self.new) ≤ length (places_of self.old) }
-        ensures yes { result ≡ true → GivesPlace now self.old.limits.patience (places_of self.old)
-            (places_of self.new) }
+        ensures fewer { length (slots_of self.new) ≤ length (slots_of self.old) }
+        ensures yes { result ≡ true → GivesSlot now self.old.limits.patience (slots_of self.old)
+            (slots_of self.new) }
         ensures nobody { NobodyComes self.old self.new }
         ensures busy { KeepsBusy now self.old self.new }
         ensures next { next_of self.new ≡ next_of self.old }
@@ -304,28 +305,28 @@ impl Serving {
 
     /// Adds the connection of `newcomer`, which was accepted at moment `now`: its socket, and the address of its client.
     fn welcome(&mut self, newcomer: (TcpStream, SocketAddr), now: u64) -> Result<(), AcceptError>
-        requires { length (places_of self.old) < room_of self.old }
-        ensures others { OthersStay (next_of self.old) (places_of self.old)
-            (places_of self.new) }
+        requires { length (slots_of self.old) < slot_count self.old }
+        ensures others { OthersStay (next_of self.old) (slots_of self.old)
+            (slots_of self.new) }
         ensures accepted { accepted_of self.old + 1 < 2 ^ 32 → accepted_of self.new ≡ accepted_of self.old + 1 }
         ensures limits { limits_of self.new ≡ limits_of self.old }
-        ensures room { room_of self.new ≡ room_of self.old }
+        ensures room { slot_count self.new ≡ slot_count self.old }
         ensures ended { ended_of self.old ≤ ended_of self.new }
-        ensures asks { room_of self.new ≤ length (places_of self.new) → self.new.accept_pending ≡ false }
+        ensures asks { slot_count self.new ≤ length (slots_of self.new) → self.new.accept_pending ≡ false }
         ensures busy { KeepsBusy now self.old self.new }
         ensures next { next_of self.new ≤ next_of self.old + 1 }
         ensures err { IfErr result IsOfAsking }
         ensures fed { (self.new.out_of_descriptors ≡ false) × (self.new.is_barred ≡ false) }
         ensures kept { KeepsAll self.old self.new }
-        ensures more { length (places_of self.new) ≤ length (places_of self.old) + 1 }
+        ensures more { length (slots_of self.new) ≤ length (slots_of self.old) + 1 }
         ensures newcomer { AllStart now self.old self.new }
-        ensures welcomed { HasStartedAt (next_of self.old) now (places_of self.new)
+        ensures welcomed { HasStartedAt (next_of self.old) now (slots_of self.new)
             ⊎ (ended_of self.old + 1 < 2 ^ 32 → ended_of self.new ≡ ended_of self.old + 1) }
     {
         self.accepted = self.accepted.saturating_add(1);
         self.is_barred = false;
         self.open_connections.add(&self.poll, newcomer, now);
-        if self.out_of_descriptors || !self.open_connections.has_place() {
+        if self.out_of_descriptors || !self.open_connections.has_slot() {
             self.out_of_descriptors = false;
             self.ask()?;
         }
@@ -337,13 +338,13 @@ impl Serving {
     /// again within a second. One that the system bars is tried again after the turns of the others.
     fn may_try_again(&mut self, error: io::Error, now: u64) -> Result<bool, AcceptError>
         ensures again { IfOk result (λ again. again ≡ true → HasNoRoom error
-            × GivesPlace now self.old.limits.patience (places_of self.old) (places_of self.new)) }
+            × GivesSlot now self.old.limits.patience (slots_of self.old) (slots_of self.new)) }
         ensures kept { IfOk result (λ again. again ≡ false
             → self.new.open_connections.connections ≡ self.old.open_connections.connections) }
         // No connection is closed when the system has no room for the first time.
         ensures first { IfOk result (λ again. again ≡ true → self.old.out_of_descriptors ≡ true) }
         ensures same { NoneChanges self.old self.new }
-        ensures fewer { length (places_of self.new) ≤ length (places_of self.old) }
+        ensures fewer { length (slots_of self.new) ≤ length (slots_of self.old) }
         ensures passing { OnOk result (IsPassing error) }
         // Where none waits, none is noted as waiting, as lacking room, or as barred.
         ensures none_waits { error_kind error ≡ WouldBlock → (result ≡ Ok false)
@@ -376,7 +377,7 @@ impl Serving {
                 self.ask()?;
                 Ok(false)
             }
-            Refusal::NoRoom if self.out_of_descriptors => Ok(self.displace(now)),
+            Refusal::NoRoom if self.out_of_descriptors => Ok(self.free_slot(now)),
             Refusal::NoRoom => {
                 self.out_of_descriptors = true;
                 self.ask()?;
@@ -387,11 +388,11 @@ impl Serving {
     }
 
     /// Gives connection `number` its turn at moment `now`, and closes it where memory is short.
-    #[tactic(auto, using(crate::proofs::PlacesLemmas::nobody_yet, crate::proofs::PlacesLemmas::went_still))]
+    #[tactic(auto, using(crate::proofs::SlotLemmas::nobody_yet, crate::proofs::SlotLemmas::went_still))]
     fn turn<A: AnswerLog>(&mut self, number: u64, service: &Service<'_>, now: u64, log: &mut A)
-        ensures others { OthersStay number (places_of self.old) (places_of self.new) }
+        ensures others { OthersStay number (slots_of self.old) (slots_of self.new) }
         ensures nobody { NobodyComes self.old self.new }
-        ensures went { AllWentOn (service_of service.now) now (places_of self.old) (places_of self.new) }
+        ensures went { AllWentOn (service_of service.now) now (slots_of self.old) (slots_of self.new) }
     {
         let buffer = &mut self.buffer;
         let turn = self
@@ -405,17 +406,17 @@ impl Serving {
     /// Does at moment `now` what the outcome `turn` of a connection's turn asks for. Queues the connection again, starts its drain once all
     /// answers are written, or closes it. Where memory is short, the caller closes it.
     fn after(&mut self, number: u64, turn: Turn, now: u64) -> Result<(), Memory>
-        ensures others { OthersStay number (places_of self.old) (places_of self.new) }
+        ensures others { OthersStay number (slots_of self.old) (slots_of self.new) }
         ensures nobody { NobodyComes self.old self.new }
         ensures same { NoneChanges self.old self.new }
         ensures waits { turn ≡ Waits → IsOk result × (self.new ≡ self.old) }
         ensures goes_on { turn ≡ GoesOn → OnOk result ((self.new.ready.items ≡ self.old.ready.items ++ number ∷ [])
-            × (places_of self.new ≡ places_of self.old)) }
+            × (slots_of self.new ≡ slots_of self.old)) }
         ensures ended { turn ≡ Ended → OnOk result ((self.new.ready.items ≡ self.old.ready.items ++ number ∷ [])
-            ⊎ (timed_at number (places_of self.new) ≡ None)) }
+            ⊎ (timed_at number (slots_of self.new) ≡ None)) }
         ensures drains { turn ≡ Ended → OnOk result ((self.new.drains.items ≡ self.old.drains.items ++ drain_of now number ∷ [])
-            ⊎ (timed_at number (places_of self.new) ≡ None)) }
-        ensures failed { turn ≡ Failed → timed_at number (places_of self.new) ≡ None }
+            ⊎ (timed_at number (slots_of self.new) ≡ None)) }
+        ensures failed { turn ≡ Failed → timed_at number (slots_of self.new) ≡ None }
     {
         match turn {
             Turn::Waits => {}
@@ -436,12 +437,12 @@ impl Serving {
 
     /// Queues connection `number` for its next turn. It keeps its slot.
     fn make_ready(&mut self, number: u64) -> Result<(), Memory>
-        ensures others { OthersStay number (places_of self.old) (places_of self.new) }
+        ensures others { OthersStay number (slots_of self.old) (slots_of self.new) }
         ensures nobody { NobodyComes self.old self.new }
         ensures same { NoneChanges self.old self.new }
         ensures ready { OnOk result (self.new.ready.items ≡ self.old.ready.items ++ number ∷ []) }
-        ensures noted { IsReadyAt number self.new.open_connections ⊎ (timed_at number (places_of self.new) ≡ None) }
-        ensures kept { places_of self.new ≡ places_of self.old }
+        ensures noted { IsReadyAt number self.new.open_connections ⊎ (timed_at number (slots_of self.new) ≡ None) }
+        ensures kept { slots_of self.new ≡ slots_of self.old }
         ensures drains { self.new.drains ≡ self.old.drains }
     {
         self.open_connections.note_ready(number);
@@ -450,7 +451,7 @@ impl Serving {
     }
 
     /// Closes the connections whose drain has ended by moment `now`.
-    #[tactic(auto, using(crate::proofs::PlacesLemmas::nobody_yet, crate::proofs::PlacesLemmas::same_on))]
+    #[tactic(auto, using(crate::proofs::SlotLemmas::nobody_yet, crate::proofs::SlotLemmas::same_on))]
     fn end_drains(&mut self, now: u64)
         ensures nobody { NobodyComes self.old self.new }
         ensures same { NoneChanges self.old self.new }
@@ -471,7 +472,7 @@ impl Serving {
         ensures early { result ≡ false → (self.new ≡ self.old)
             × IfSome (slice_get self.old.drains.items 0) (λ drain. now < drain.ends) }
         ensures over { result ≡ true → IsSomeAnd (slice_get self.old.drains.items 0) (λ drain. (drain.ends ≤ now)
-            × (timed_at drain.number (places_of self.new) ≡ None)) }
+            × (timed_at drain.number (slots_of self.new) ≡ None)) }
         ensures gone { result ≡ true → self.new.drains.items ≡ drop 1 self.old.drains.items }
     {
         match self.drains.front().copied() {

@@ -6,7 +6,7 @@ ghost use Rattle.server_connections.specs.Table.{timed_at};
 ghost use Rattle.cog_server.specs.Additions.{ServiceState};
 ghost use Rattle.std.specs.declared.io.ErrorKind.TheVariants.{Interrupted, OutOfMemory, WouldBlock};
 ghost use Rattle.server_sockets.specs.Going.{AllWentOn};
-ghost use Rattle.server_sockets.specs.Turns.{HasEndedAt, IsDrainedAt, IsOpenAt, IsTriedAt, KeepsPlaces};
+ghost use Rattle.server_sockets.specs.Turns.{HasEndedAt, IsDrainedAt, IsOpenAt, IsTriedAt, KeepsSlots};
 ghost use Rattle.server_sockets.specs.declared.turn.Turn.TheVariants.{Ended, GoesOn, Waits};
 
 use crate::answer_log::{AnswerLog, ConnectionLog};
@@ -99,7 +99,7 @@ fn step<A: AnswerLog>(
     bounds: Bounds,
     log: &mut ConnectionLog<'_, A>,
 ) -> io::Result<Option<usize>>
-    ensures kept { KeepsPlaces socket.now.number connections.old connections.new }
+    ensures kept { KeepsSlots socket.now.number connections.old connections.new }
     ensures went { AllWentOn (service_of service.now) bounds.now connections.old.table.entries connections.new.table.entries }
     ensures ended { IfOk result (λ count. count ≡ None → HasEndedAt socket.now.number connections.new.table.entries) }
     // Something is done only on a connection that hasn't ended, and its socket blocks, or fails, only where it still hasn't.
@@ -135,7 +135,7 @@ pub fn serve_turn<A: AnswerLog>(
     now: u64,
     log: &mut ConnectionLog<'_, A>,
 ) -> Turn
-    ensures kept { KeepsPlaces socket.now.number connections.old connections.new }
+    ensures kept { KeepsSlots socket.now.number connections.old connections.new }
     ensures went { AllWentOn (service_of service.now) now connections.old.table.entries connections.new.table.entries }
     ensures ended { result ≡ Ended → HasEndedAt socket.now.number connections.new.table.entries }
     // One that has ended neither goes on nor waits: it ends in the turn in which the last byte of its last answer is taken.
@@ -172,7 +172,7 @@ pub fn serve_turn<A: AnswerLog>(
 /// the last, and `Waits` where it took none.
 #[tactic(auto, using(crate::proofs::GoingLemmas::tries))]
 pub fn try_turn(connections: &mut Connections, socket: &ConnectionSocket, now: u64) -> Turn
-    ensures kept { KeepsPlaces socket.now.number connections.old connections.new }
+    ensures kept { KeepsSlots socket.now.number connections.old connections.new }
     // Nothing is answered, by whatever service.
     ensures went { (service : ServiceState) → AllWentOn service now connections.old.table.entries connections.new.table.entries }
     ensures tried { IsTriedAt now socket.now.number connections.new.table.entries }
@@ -192,7 +192,7 @@ pub fn drain_turn(
     socket: &ConnectionSocket,
     buffer: &mut [u8],
 ) -> Turn
-    ensures kept { KeepsPlaces socket.now.number connections.old connections.new }
+    ensures kept { KeepsSlots socket.now.number connections.old connections.new }
     // Nothing is answered, by whatever service.
     ensures went { (service : ServiceState) (now : ℕ) → AllWentOn service now connections.old.table.entries connections.new.table.entries }
     ensures ended { result ≡ Ended → IsDrainedAt socket.now.number connections.new.table.entries }

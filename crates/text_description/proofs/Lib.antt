@@ -1,2 +1,3 @@
+pub mod CoveringLemmas
 pub mod LevelLemmas
 pub mod TextLemmas

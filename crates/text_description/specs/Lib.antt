@@ -1,4 +1,6 @@
+pub mod Covering
 pub mod Description
 pub mod Facts
 pub mod Placement
 pub mod Text
+pub mod World

@@ -43,6 +43,16 @@ corners_by placement size = option_and_then (λ p. option_map (corners_at p) siz
 abbrev pub geo_transform_of : Placement → List Float
 geo_transform_of p = p.left ∷ p.across.0 ∷ p.down.0 ∷ p.top ∷ p.across.1 ∷ p.down.1 ∷ []
 
+-- The place of a level's columns and rows: each step is longer by the ratio of the first level's columns or rows, `whole`, to the level's own.
+abbrev pub ratio : (whole part : ℕ) → Float
+ratio whole part = div binary64 (of_int binary64 (pos whole)) (of_int binary64 (pos part))
+
+abbrev pub longer : Float × Float → (by : Float) → Float × Float
+longer step by = (mul binary64 step.0 by, mul binary64 step.1 by)
+
+abbrev pub of_level : Placement → (whole part : ℕ × ℕ) → Placement
+of_level p whole part = record p { across = longer p.across (ratio whole.0 part.0); down = longer p.down (ratio whole.1 part.1) }
+
 -- ---- what the fields say
 
 -- the double at a place of a field, which has each with its most significant byte first

@@ -95,7 +95,7 @@ impl<'a> Description<'a> {
 }
 
 /// Returns whether a pixel is a point.
-fn is_point(raster_type: Option<RasterType>) -> bool
+pub(crate) fn is_point(raster_type: Option<RasterType>) -> bool
     ensures { result ≡ is_point raster_type }
 {
     matches!(raster_type, Some(RasterType::Point))

@@ -2,11 +2,15 @@
 //! what the file doesn't say is absent.
 #![tactic(auto)]
 
+mod covering;
 mod description;
 mod facts;
 mod placement;
 mod words;
+mod world;
 
+pub use covering::{Bounds, NoPixels, law_snap_is, level_sides, window_covering};
 pub use description::{Description, Form};
 pub use facts::{CoordinateSystem, LevelFacts, RasterType};
 pub use placement::{Corners, Placement, law_halves_are};
+pub use world::{WorldFile, law_half_is, world_file};

@@ -3,14 +3,14 @@ ghost use Rattle.std.specs.Prelude.{◌≡◌, from_bits, pos};
 ghost use Rattle.std.specs.Int.{w64, from_be_bytes};
 ghost use Rattle.std.specs.Float.Ieee.{binary64, div, neg, of_int};
 ghost use Rattle.text_description.specs.declared.placement.TheConstants.{HALF_BEFORE, NOTHING, TWO};
-ghost use Rattle.text_description.specs.Placement.{double_at, said_of, scaled, transformed};
+ghost use Rattle.text_description.specs.Placement.{double_at, longer, said_of, scaled, transformed};
 
 use cog_client::Info;
 use serde::Serialize;
 use std::num::f64_from_bits_with_nan;
 
 /// Zero: the first column and row, and what a step along one axis adds to the other.
-const NOTHING: f64 = 0.0;
+pub(crate) const NOTHING: f64 = 0.0;
 
 /// Half a column or row before the first one.
 const HALF_BEFORE: f64 = -0.5;
@@ -104,10 +104,17 @@ fn as_said(info: &Info) -> Option<Placement>
     }
 }
 
+/// Returns a step that is longer by a factor.
+fn longer(step: (f64, f64), by: f64) -> (f64, f64)
+    ensures { result ≡ longer step by }
+{
+    (step.0 * by, step.1 * by)
+}
+
 impl Placement {
     ghost use Rattle.std.specs.Prelude.{◌≡◌, pos};
     ghost use Rattle.std.specs.Float.Ieee.{binary64, of_int};
-    ghost use Rattle.text_description.specs.Placement.{corners_of, geo_transform_of, place_of, placement_of};
+    ghost use Rattle.text_description.specs.Placement.{corners_of, geo_transform_of, of_level, place_of, placement_of};
 
     /// Returns where the corners of columns and rows lie, or `None` where the file doesn't say it. With `is_point` the fields place the
     /// middle of the first pixel, and its corner lies half a pixel before that.
@@ -120,6 +127,17 @@ impl Placement {
         }
         let (left, top) = said.at(HALF_BEFORE, HALF_BEFORE);
         Some(Placement { left, top, ..said })
+    }
+
+    /// Returns the placement of a level of `sides` columns and rows, where level 0 has `whole` of them. Both begin in one corner.
+    pub fn of_level(&self, whole: (u32, u32), sides: (u32, u32)) -> Placement
+        ensures { result ≡ of_level self.now whole sides }
+    {
+        Placement {
+            across: longer(self.across, f64::from(whole.0) / f64::from(sides.0)),
+            down: longer(self.down, f64::from(whole.1) / f64::from(sides.1)),
+            ..*self
+        }
     }
 
     /// Returns the place of a column and a row, to the right and upwards. Both may have fractions.

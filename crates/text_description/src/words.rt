@@ -1,20 +1,30 @@
 //! A description in words, one fact a line.
+use crate::covering::NoPixels;
 use crate::description::Description;
 use crate::facts::{CoordinateSystem, LevelFacts, RasterType};
 use crate::placement::{Corners, Placement};
+use crate::world::WorldFile;
 use ryu::Buffer;
 use std::fmt;
 use text_report::EscapedText;
 
-/// Prints two numbers, each as the shortest decimal that stands for it.
+/// Prints a number as the shortest decimal that stands for it.
+#[derive(Clone, Copy)]
+struct Number(f64);
+
+impl fmt::Display for Number {
+    fn fmt<W: fmt::Write>(&self, f: &mut fmt::Formatter<W>) -> fmt::Result {
+        f.write_str(Buffer::new().format(self.0))
+    }
+}
+
+/// Prints two numbers.
 #[derive(Clone, Copy)]
 struct Pair((f64, f64));
 
 impl fmt::Display for Pair {
     fn fmt<W: fmt::Write>(&self, f: &mut fmt::Formatter<W>) -> fmt::Result {
-        f.write_str(Buffer::new().format(self.0.0))?;
-        f.write_str(" ")?;
-        f.write_str(Buffer::new().format(self.0.1))
+        write!(f, "{} {}", Number(self.0.0), Number(self.0.1))
     }
 }
 
@@ -80,6 +90,30 @@ impl fmt::Display for Corners {
         writeln!(f, "upper right {}", Pair(self.upper_right))?;
         writeln!(f, "lower right {}", Pair(self.lower_right))?;
         writeln!(f, "center {}", Pair(self.center))
+    }
+}
+
+impl fmt::Display for NoPixels {
+    fn fmt<W: fmt::Write>(&self, f: &mut fmt::Formatter<W>) -> fmt::Result {
+        f.write_str(match self {
+            NoPixels::NotPlaced =>
+                "the file doesn't say where its pixels lie. Give X Y W H, in pixels",
+            NoPixels::Turned =>
+                "the image is turned, or its pixels have no size. Give X Y W H, in pixels",
+            NoPixels::Outside =>
+                "the rectangle meets no pixel. Give W S E N in the file's own coordinates: describe prints those of its corners",
+        })
+    }
+}
+
+impl fmt::Display for WorldFile {
+    fn fmt<W: fmt::Write>(&self, f: &mut fmt::Formatter<W>) -> fmt::Result {
+        writeln!(f, "{}", Number(self.across.0))?;
+        writeln!(f, "{}", Number(self.across.1))?;
+        writeln!(f, "{}", Number(self.down.0))?;
+        writeln!(f, "{}", Number(self.down.1))?;
+        writeln!(f, "{}", Number(self.first.0))?;
+        writeln!(f, "{}", Number(self.first.1))
     }
 }
 

@@ -7,7 +7,7 @@ use Rattle.std.proofs.lemmas.Bool.Decides.{nat_tests}
 use Rattle.std.proofs.lemmas.List.{take_all, length-append}
 use Rattle.std.proofs.lemmas.Option.{none-some, same_Some}
 use Rattle.std.proofs.lemmas.Slice.Eq.{bytes_eq-Decides}
-use Rattle.http_range.specs.Ask.{check_text}
+use Rattle.http_range.specs.Ask.{check_with}
 use Rattle.http_range.specs.Book.{Publication, published}
 use Rattle.http_range.specs.declared.reading.Why.TheVariants.{Cut}
 use Rattle.http_range.specs.Reading.{front_tag, tag_seen}
@@ -17,7 +17,7 @@ use Rattle.http_range.specs.Response.{Response, IsAnswer, text_of, response_to_c
 use Rattle.cog_client.specs.declared.delivered.Current.{Current}
 use Rattle.cog_client.specs.declared.delivered.Current.TheVariants.{Same, Other}
 use Rattle.cog_client.specs.Check.{current_by}
-use Rattle.cog_client.specs.Client.{ClientState, host_of, name_of}
+use Rattle.cog_client.specs.Client.{ClientState, fields_of, host_of, name_of}
 use Rattle.world.specs.declared.event.Event.{Event}
 use Rattle.world.specs.declared.event.AnsweredCheck.{AnsweredCheck}
 use Rattle.world.specs.declared.event.AnsweredRequest.{AnsweredRequest}
@@ -69,12 +69,12 @@ module _ (laws : LowerLaws) where
       let s = h.seen.answered.response in
       let host = host_of c in
       let name = name_of c in
-      let text : k.request.items ≡ check_text host name k.tag ++ [] = h.seen.text ∙ sym (append-nil _) in
+      let text : k.request.items ≡ check_with host name (fields_of c) k.tag ++ [] = h.seen.text ∙ sym (append-nil _) in
       let P : List ℕ → Type 0 = λ m. IsAnswer w.catalogue m s in
       let answered = subst P h.seen.text h.seen.answered.answers in
-      let response : s ≡ response_to_check (published name w.catalogue) k.tag = (laws.checks w.catalogue host name k.tag [] s h.lawful).0 (subst P text h.seen.answered.answers) in
+      let response : s ≡ response_to_check (published name w.catalogue) k.tag = (laws.checks w.catalogue host name (fields_of c) k.tag [] s h.lawful).0 (subst P text h.seen.answered.answers) in
       let bytes : k.answer.text.items ≡ take (length (text_of s)) (text_of s) = h.seen.answered.shows.text ∙ sym (take_all (length (text_of s)) (text_of s) (omega arith)) in
-      let read = laws.read.answer w.catalogue (check_text host name k.tag) k.answer.text.items s (length (text_of s)) h.seen.current.0 g.lawful answered bytes h.seen.current.1 in
+      let read = laws.read.answer w.catalogue (check_with host name (fields_of c) k.tag) k.answer.text.items s (length (text_of s)) h.seen.current.0 g.lawful answered bytes h.seen.current.1 in
       let told : k.current ≡ current_by k.tag (tag_seen (response_to_check (published name w.catalogue) k.tag).reply) =
       h.seen.current.2 ∙ (ap (λ r. current_by k.tag r) (read ∙ whole_told s) ∙ ap (λ (r : Response). current_by k.tag (tag_seen r.reply)) response) in
       let there = ap (λ j. slice_get w.clients j) h.seen.client ∙ ap (λ (ss : List Seen). slice_get ss i) (sym g.seen_are) ∙ (get-map seen cs i ∙ ap (λ (o : Option ClientState). option_map seen o) at) in

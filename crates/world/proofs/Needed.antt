@@ -5,12 +5,12 @@ use Rattle.std.specs.Option.{option_map}
 use Rattle.std.proofs.lemmas.Option.{none-some, same_Some}
 use Rattle.tiff_dir.specs.declared.query.Query.{Query}
 use Rattle.extents.specs.declared.span.Span.{Span}
-use Rattle.http_range.specs.Ask.{request_by}
+use Rattle.http_range.specs.Ask.{request_with}
 use Rattle.http_range.specs.Book.{Publication, Book, HasDistinctTags, In}
 use Rattle.cog_client.specs.declared.request_options.RequestOptions.{RequestOptions}
 use Rattle.cog_client.specs.declared.error.ClientError.{ClientError}
 use Rattle.cog_client.specs.Case.{Revision}
-use Rattle.cog_client.specs.Client.{ClientState, Knows, KnowsOne, ClientAgrees, ahead_of, asked_of, client_refusal, host_of, name_of, query_of, revision_of, tag_of, closes, how_of}
+use Rattle.cog_client.specs.Client.{ClientState, Knows, KnowsOne, ClientAgrees, ahead_of, asked_of, client_refusal, fields_of, host_of, name_of, query_of, revision_of, tag_of, closes, how_of}
 use Rattle.cog_client.specs.Calls.{Requests, SameClient, request_for}
 use Rattle.cog_client.specs.Keeps.{AsksFor, RequestsKeeping}
 use Rattle.cog_client.specs.Progress.{IsOfNeeded}
@@ -30,12 +30,13 @@ use Rattle.world.proofs.Lists.{get-map, get-push, get-set}
 use Rattle.world.proofs.Effects.{HoldsElse, at_effect, of_step}
 use Rattle.world.proofs.Good.{Good}
 
--- ---- every client asks the one host, by each request that the connection end, and looks no block ahead
+-- ---- every client asks the one host, by each request that the connection end, adds no field, and looks no block ahead
 
 pub record IsHosted (c : ClientState) : Type 0 where
   pub host_is : host_of c ≡ host
   pub closing : closes c ≡ true
   pub near : ahead_of c ≡ 0
+  pub bare : fields_of c ≡ []
 
 abbrev pub AllHosted : List ClientState → Type 0
 AllHosted cs = (i : ℕ) (c : ClientState) → slice_get cs i ≡ Some c → IsHosted c
@@ -52,6 +53,7 @@ stays_hosted c next later stays is hosted = record {
   host_is = ap host_of is ∙ stays.0 ∙ hosted.host_is;
   closing = ap closes is ∙ ap (λ (h : RequestOptions). h.closes) stays.1 ∙ hosted.closing;
   near = ap ahead_of is ∙ ap (λ (h : RequestOptions). h.ahead) stays.1 ∙ hosted.near;
+  bare = ap fields_of is ∙ ap (λ (h : RequestOptions). h.fields) stays.1 ∙ hosted.bare;
 }
 
 hosted_same : (old new : List ClientState) → new ≡ old → AllHosted old → AllHosted new
@@ -72,7 +74,7 @@ unfolding host_of how_of
 hosted_made (Some refusal) name blocks n old new h all = hosted_same old new h.same all
 hosted_made None name blocks n old new h all =
     hosted_same (old ++ h.0 ∷ []) new h.2.same (λ j d e. elim (get-push old j h.0 d e) [
-      | inl is ↦ record { host_is = ap host_of is ∙ ap host_of h.1; closing = ap closes is ∙ ap closes h.1; near = ap ahead_of is ∙ ap ahead_of h.1 }
+      | inl is ↦ record { host_is = ap host_of is ∙ ap host_of h.1; closing = ap closes is ∙ ap closes h.1; near = ap ahead_of is ∙ ap ahead_of h.1; bare = ap fields_of is ∙ ap fields_of h.1 }
       | inr there ↦ all j d there
     ])
 
@@ -167,7 +169,7 @@ module _ (laws : LowerLaws) where
       let asked = answered.span in
       let q = asks_query c mid (Some a.request.items) a.span r asked in
       let tag : a.tag ≡ tag_of c = answered.tag ∙ ap (λ x. option_map (λ (v : Revision). v.tag) x) r.goes.revision in
-      let text : a.request.items ≡ request_by (closes c) (host_of c) (name_of c) a.span.first a.span.last (tag_of c) = same_Some _ _ (r.text ∙ ap (request_for c) asked) in
+      let text : a.request.items ≡ request_with (closes c) (host_of c) (name_of c) (fields_of c) a.span.first a.span.last (tag_of c) = same_Some _ _ (r.text ∙ ap (request_for c) asked) in
       let agrees : ClientAgrees mid w.book = k.goes.agrees w.book (g.agree i c at w.book (λ p j. j) g.distinct) in
       let near : ahead_of mid ≡ 0 = ap (λ (h : RequestOptions). h.ahead) r.goes.same.how ∙ (hosts i c at).near in
       let asks : AsksFor mid (revision_of mid) 0 a.span =
@@ -176,9 +178,10 @@ module _ (laws : LowerLaws) where
         seen = seen c;
         there = ap (λ j. slice_get w.clients j) answered.client
             ∙ ap (λ (ss : List Seen). slice_get ss i) (sym g.seen_are) ∙ get-map seen cs i ∙ ap (λ (o : Option ClientState). option_map seen o) at;
-        text = text ∙ ap (λ b. request_by b (host_of c) (name_of c) a.span.first a.span.last (tag_of c)) (hosts i c at).closing
-            ∙ ap (λ h. request_by true h (name_of c) a.span.first a.span.last (tag_of c)) (hosts i c at).host_is
-            ∙ ap (λ t. request_by true host (name_of c) a.span.first a.span.last t) (sym tag);
+        text = text ∙ ap (λ b. request_with b (host_of c) (name_of c) (fields_of c) a.span.first a.span.last (tag_of c)) (hosts i c at).closing
+            ∙ ap (λ h. request_with true h (name_of c) (fields_of c) a.span.first a.span.last (tag_of c)) (hosts i c at).host_is
+            ∙ ap (λ fields. request_with true host (name_of c) fields a.span.first a.span.last (tag_of c)) (hosts i c at).bare
+            ∙ ap (λ t. request_with true host (name_of c) [] a.span.first a.span.last t) (sym tag);
         needed = needed_by w c mid a (revision_of mid) q.0 refl answered.tag agrees asks r.goes.same.name (sym r.goes.same.query ∙ q.1) q.1;
       }
 

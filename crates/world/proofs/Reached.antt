@@ -7,7 +7,7 @@ use Rattle.std.proofs.lemmas.Option.{none-some, same_Some}
 use Rattle.tiff_dir.specs.declared.query.Query.{Query}
 use Rattle.tiff_dir.specs.Query.{cost}
 use Rattle.extents.specs.declared.span.Span.{Span}
-use Rattle.http_range.specs.Ask.{CanAsk, request_by}
+use Rattle.http_range.specs.Ask.{CanAsk, request_with}
 use Rattle.http_range.specs.Book.{Publication, In, published}
 use Rattle.http_range.specs.Response.{IsAnswer}
 use Rattle.cog_client.specs.declared.request_options.RequestOptions.{RequestOptions}
@@ -15,7 +15,7 @@ use Rattle.cog_client.specs.declared.delivered.Delivered.{Delivered}
 use Rattle.cog_client.specs.declared.report.Report.{Report}
 use Rattle.cog_client.specs.Report.{IsTrueReport, Told, told}
 use Rattle.cog_client.specs.Case.{Revision}
-use Rattle.cog_client.specs.Client.{ClientState, Knows, ClientAgrees, ahead_of, asked_of, host_of, name_of, query_of, report_of, tag_of, closes}
+use Rattle.cog_client.specs.Client.{ClientState, Knows, ClientAgrees, ahead_of, asked_of, fields_of, host_of, name_of, query_of, report_of, tag_of, closes}
 use Rattle.cog_client.specs.Calls.{request_for}
 use Rattle.cog_client.specs.Keeps.{DeliversKeeping, RequestsKeeping}
 use Rattle.cog_client.specs.Progress.{BringsOn, IsAtWork, IsOwnAnswer, left}
@@ -87,14 +87,16 @@ module _ (laws : LowerLaws) (w : World) (cs : List ClientState) (i : ℕ) (c : C
       let name = r.goes.same.name in
       let tag : tag_of mid ≡ tag_of c = ap (λ x. option_map (λ (v : Revision). v.tag) x) r.goes.revision in
       let s = h.answered.answered in
-      let can : CanAsk (host_of c) (name_of c) span.first span.last (tag_of c) = some_of (asked_of mid) span _ asked k.lawful in
-      let text : a.request.items ≡ request_by (closes c) (host_of c) (name_of c) span.first span.last (tag_of c) = same_Some _ _ (r.text ∙ ap (request_for c) asked) in
+      let can : CanAsk (host_of c) (name_of c) (fields_of c) span.first span.last (tag_of c) = some_of (asked_of mid) span _ asked k.lawful in
+      let text : a.request.items ≡ request_with (closes c) (host_of c) (name_of c) (fields_of c) span.first span.last (tag_of c) = same_Some _ _ (r.text ∙ ap (request_for c) asked) in
       let closing : closes mid ≡ closes c = ap (λ (h : RequestOptions). h.closes) r.goes.same.how in
-      let same : request_by (closes c) (host_of c) (name_of c) span.first span.last (tag_of c) ≡ request_by (closes mid) (host_of mid) (name_of mid) span.first span.last (tag_of mid) =
-      ap (λ b. request_by b (host_of c) (name_of c) span.first span.last (tag_of c)) (sym closing)
-      ∙ ap (λ h. request_by (closes mid) h (name_of c) span.first span.last (tag_of c)) (sym host)
-      ∙ ap (λ n. request_by (closes mid) (host_of mid) n span.first span.last (tag_of c)) (sym name)
-      ∙ ap (λ t. request_by (closes mid) (host_of mid) (name_of mid) span.first span.last t) (sym tag) in
+      let how = r.goes.same.how in
+      let same : request_with (closes c) (host_of c) (name_of c) (fields_of c) span.first span.last (tag_of c) ≡ request_with (closes mid) (host_of mid) (name_of mid) (fields_of mid) span.first span.last (tag_of mid) =
+      ap (λ b. request_with b (host_of c) (name_of c) (fields_of c) span.first span.last (tag_of c)) (sym closing)
+      ∙ ap (λ h. request_with (closes mid) h (name_of c) (fields_of c) span.first span.last (tag_of c)) (sym host)
+      ∙ ap (λ n. request_with (closes mid) (host_of mid) n (fields_of c) span.first span.last (tag_of c)) (sym name)
+      ∙ ap (λ (h : RequestOptions). request_with (closes mid) (host_of mid) (name_of mid) h.fields span.first span.last (tag_of c)) (sym how)
+      ∙ ap (λ t. request_with (closes mid) (host_of mid) (name_of mid) (fields_of mid) span.first span.last t) (sym tag) in
       record {
         catalogue = w.catalogue;
         lawful = g.lawful;
@@ -102,8 +104,10 @@ module _ (laws : LowerLaws) (w : World) (cs : List ClientState) (i : ℕ) (c : C
         asked = asked;
         ahead = ahead_of mid;
         asks = some_of (asked_of mid) span _ asked k.asks;
-        can = subst (λ h. CanAsk h (name_of mid) span.first span.last (tag_of mid)) (sym host)
-            (subst (λ n. CanAsk (host_of c) n span.first span.last (tag_of mid)) (sym name) (subst (λ t. CanAsk (host_of c) (name_of c) span.first span.last t) (sym tag) can));
+        can = subst (λ (w : RequestOptions). CanAsk (host_of mid) (name_of mid) w.fields span.first span.last (tag_of mid)) (sym how)
+            (subst (λ h. CanAsk h (name_of mid) (fields_of c) span.first span.last (tag_of mid)) (sym host)
+            (subst (λ n. CanAsk (host_of c) n (fields_of c) span.first span.last (tag_of mid)) (sym name)
+            (subst (λ t. CanAsk (host_of c) (name_of c) (fields_of c) span.first span.last t) (sym tag) can)));
         response = s.response;
         answers = subst (λ m. IsAnswer w.catalogue m s.response) (text ∙ same) s.answers;
         shown = s.shows.text;

@@ -9,7 +9,7 @@ use Rattle.http_range.specs.Honest.{IsFront, IsPieceOfBook, IsReadAs}
 use Rattle.cog_server.specs.declared.server.Answer.{Answer}
 use Rattle.cog_server.specs.Server.{ServerState}
 use Rattle.cog_client.specs.declared.error.ClientError.{ClientError}
-use Rattle.cog_client.specs.Client.{ClientAgrees, ClientState, IsOfBook, asked_of, client_refusal, closes, host_of, name_of, revision_of, tag_of}
+use Rattle.cog_client.specs.Client.{ClientAgrees, ClientState, IsOfBook, asked_of, client_refusal, closes, fields_of, host_of, name_of, revision_of, tag_of}
 use Rattle.cog_client.specs.Keeps.{RequestsKeeping, StopsDelivery}
 use Rattle.world.specs.declared.calls.Call.{Call}
 use Rattle.world.specs.declared.calls.Call.TheVariants as calls
@@ -119,7 +119,7 @@ module _ (laws : LowerLaws) where
   exchange_shows : (w : World) (cs : List ClientState) (i : ℕ) (c : ClientState) (text : List ℕ) → Good w cs → IsGiven w.catalogue (length w.sent) i calls.Exchange c text → IsReadAs (IsPieceOfBook (name_of c) w.book) text
   exchange_shows w cs i c text g (a, mid, asks, k, front) =
       let asked = asked_for c (asked_of mid) a.request.items asks.requests.text k.lawful in
-      let for : is_for a.answer (name_of c) ≡ true = answer_for laws w.catalogue (closes c) (host_of c) (name_of c) (tag_of c) asked.0 a.request.items a.answer asked.1 asked.2 asks.answered.answered in
+      let for : is_for a.answer (name_of c) ≡ true = answer_for laws w.catalogue (closes c) (host_of c) (name_of c) (fields_of c) (tag_of c) asked.0 a.request.items a.answer asked.1 asked.2 asks.answered.answered in
       let honest = answer_honest laws w cs a.request.items a.answer g asks.answered.answered in
       laws.fronts.book a.answer.text.items (name_of c) w.book (honest (name_of c) w.book for (λ p j. j)) text front
 

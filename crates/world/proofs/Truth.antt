@@ -9,7 +9,8 @@ use Rattle.std.proofs.lemmas.Option.{none-some, same_Some}
 use Rattle.std.proofs.lemmas.Slice.Eq.{bytes_eq-Decides}
 use Rattle.tiff_dir.specs.declared.query.Query.{Query}
 use Rattle.extents.specs.declared.span.Span.{Span}
-use Rattle.http_range.specs.Ask.{CanAsk, request_by}
+use Rattle.http_range.specs.Ask.{CanAsk, request_with}
+use Rattle.http_range.specs.Text.{FieldLine}
 use Rattle.http_range.specs.Book.{Publication, Book, Catalogue, Includes, published}
 use Rattle.http_range.specs.declared.range.Resolved.TheVariants.{Part, Whole}
 use Rattle.http_range.specs.declared.reply.Reply.TheVariants.{R416}
@@ -21,7 +22,7 @@ use Rattle.cog_server.specs.Server.{IsAnswered}
 use Rattle.cog_client.specs.declared.error.ClientError.{ClientError}
 use Rattle.cog_client.specs.declared.report.Report.{Report}
 use Rattle.cog_client.specs.Report.{told, IsTrueReport}
-use Rattle.cog_client.specs.Client.{ClientState, asked_of, client_refusal, host_of, name_of, query_of, report_of, revision_of, tag_of, closes}
+use Rattle.cog_client.specs.Client.{ClientState, asked_of, client_refusal, fields_of, host_of, name_of, query_of, report_of, revision_of, tag_of, closes}
 use Rattle.cog_client.specs.Calls.{request_for}
 use Rattle.cog_client.specs.Keeps.{RequestsKeeping}
 use Rattle.world.specs.declared.event.Event.{Event}
@@ -193,8 +194,8 @@ served_name laws name catalogue first last tag (Some p) e =
     by_case false inside named = inl (ap Some named)
 
 -- a client's request is that for a span
-pub asked_for : (c : ClientState) (o : Option Span) (request : List ℕ) → Some request ≡ request_for c o → IfSome o (λ s. CanAsk (host_of c) (name_of c) s.first s.last (tag_of c))
-    → (s : Span) × (request ≡ request_by (closes c) (host_of c) (name_of c) s.first s.last (tag_of c)) × CanAsk (host_of c) (name_of c) s.first s.last (tag_of c)
+pub asked_for : (c : ClientState) (o : Option Span) (request : List ℕ) → Some request ≡ request_for c o → IfSome o (λ s. CanAsk (host_of c) (name_of c) (fields_of c) s.first s.last (tag_of c))
+    → (s : Span) × (request ≡ request_with (closes c) (host_of c) (name_of c) (fields_of c) s.first s.last (tag_of c)) × CanAsk (host_of c) (name_of c) (fields_of c) s.first s.last (tag_of c)
 asked_for c None request e can = absurd (none-some request (sym e))
 asked_for c (Some s) request e can = (s, same_Some _ _ e, can)
 
@@ -222,12 +223,12 @@ module _ (laws : LowerLaws) where
       subst Q (sym h.shows.text) (laws.honest.answered w.catalogue later message h.response name g.lawful (λ m p found. inc p (g.covers m p found)) h.answers named)
 
   -- the answer to a client's own request is for its name
-  pub answer_for : (catalogue : Catalogue) (close : Bool) (host name : List ℕ) (tag : Option (List ℕ)) (s : Span) (request : List ℕ) (a : Answer)
-      → request ≡ request_by close host name s.first s.last tag → CanAsk host name s.first s.last tag → IsAnswered catalogue request a → is_for a name ≡ true
-  answer_for catalogue close host name tag s request a is can h =
-      let text : request ≡ request_by close host name s.first s.last tag ++ [] = is ∙ sym (append-nil _) in
+  pub answer_for : (catalogue : Catalogue) (close : Bool) (host name : List ℕ) (extra : List FieldLine) (tag : Option (List ℕ)) (s : Span) (request : List ℕ) (a : Answer)
+      → request ≡ request_with close host name extra s.first s.last tag → CanAsk host name extra s.first s.last tag → IsAnswered catalogue request a → is_for a name ≡ true
+  answer_for catalogue close host name extra tag s request a is can h =
+      let text : request ≡ request_with close host name extra s.first s.last tag ++ [] = is ∙ sym (append-nil _) in
       let P : List ℕ → Type 0 = λ m. IsAnswer catalogue m h.response in
-      let same = (laws.answered catalogue close host name [] s.first s.last tag h.response can s.ascending).0 (subst P text h.answers) in
+      let same = (laws.answered catalogue close host name extra [] s.first s.last tag h.response can s.ascending).0 (subst P text h.answers) in
       let Q : Response → Type 0 = λ r. (r.name ≡ Some name) ⊎ (r.name ≡ None) in
       let served = subst Q (sym same) (served_name laws name catalogue s.first s.last tag (published name catalogue) refl) in
       for_named name a.name (elim served [ inl is ↦ inl (h.shows.name ∙ is) | inr none ↦ inr (h.shows.name ∙ none) ])
@@ -266,7 +267,7 @@ module _ (laws : LowerLaws) where
       let r = asks.requests in
       let delivers = d.1 in
       let asked = asked_for c (asked_of mid) a.request.items r.text k.lawful in
-      let for : is_for a.answer (name_of c) ≡ true = answer_for w.catalogue (closes c) (host_of c) (name_of c) (tag_of c) asked.0 a.request.items a.answer asked.1 asked.2 asks.answered.answered in
+      let for : is_for a.answer (name_of c) ≡ true = answer_for w.catalogue (closes c) (host_of c) (name_of c) (fields_of c) (tag_of c) asked.0 a.request.items a.answer asked.1 asked.2 asks.answered.answered in
       let honest = answer_honest w cs a.request.items a.answer g asks.answered.answered in
       let P : Book → List ℕ → Type 0 = λ later name. IsReadAs (IsPieceOfBook name later) a.answer.text.items in
       record {

@@ -1,7 +1,7 @@
 -- A run: what each event does to the clients, and what is logged of it, by the contracts of the calls.
 use Rattle.std.specs.Prelude.{◌≡◌, ◌⊎◌, ℕ, ◌^◌, ◌<◌, nat_lt, if◌then◌else◌, List, [], ◌∷◌, ◌++◌, length, take, Option, Some, None, IfSome, is_some, option_and_then, slice_get, slice_set}
 use Rattle.std.specs.Option.{option_map, option_map_or}
-use Rattle.http_range.specs.Ask.{check_text}
+use Rattle.http_range.specs.Ask.{check_with}
 use Rattle.http_range.specs.Book.{Catalogue, HasDistinctTags}
 use Rattle.cog_server.specs.declared.error.PublishError.{PublishError}
 use Rattle.cog_server.specs.declared.server.Answer.{Answer}
@@ -9,7 +9,7 @@ use Rattle.cog_server.specs.Server.{IsAnswered, refusal_of}
 use Rattle.cog_client.specs.declared.error.ClientError.{ClientError}
 use Rattle.cog_client.specs.declared.delivered.Delivered.{Delivered}
 use Rattle.cog_client.specs.Report.{Told, told}
-use Rattle.cog_client.specs.Client.{ClientState, client_refusal, host_of, name_of, query_of, asked_of, tag_of, report_of}
+use Rattle.cog_client.specs.Client.{ClientState, client_refusal, fields_of, host_of, name_of, query_of, asked_of, tag_of, report_of}
 use Rattle.cog_client.specs.Calls.{Starts, Opens, Forgets, Requests, Delivers}
 use Rattle.cog_client.specs.Check.{IsCurrent}
 use Rattle.world.specs.declared.event.Event.{Event}
@@ -114,7 +114,7 @@ pub record IsCheckOf (catalogue : Catalogue) (sent i : ℕ) (c : ClientState) (k
   pub client : k.client ≡ i
   pub number : k.number ≡ sent
   pub tag : tag_of c ≡ Some k.tag
-  pub text : k.request.items ≡ check_text (host_of c) (name_of c) k.tag
+  pub text : k.request.items ≡ check_with (host_of c) (name_of c) (fields_of c) k.tag
   pub answered : IsAnswered catalogue k.request.items k.answer
   pub current : IsCurrent (Some k.tag) k.answer.text.items k.current
 

@@ -12,7 +12,7 @@ use Rattle.cog_server.specs.declared.server.Answer.{Answer}
 use Rattle.cog_server.specs.Server.{IsAnswered, ServerState, refusal_of}
 use Rattle.cog_client.specs.declared.delivered.Delivered.{Delivered}
 use Rattle.cog_client.specs.Report.{IsTrueReport}
-use Rattle.cog_client.specs.Client.{ClientAgrees, ClientState, host_of, name_of, query_of, report_of, tag_of}
+use Rattle.cog_client.specs.Client.{ClientAgrees, ClientState, fields_of, host_of, name_of, query_of, report_of, tag_of}
 use Rattle.cog_client.specs.Calls.{Forgets}
 use Rattle.cog_client.specs.Keeps.{DeliversKeeping, OpensKeeping, RequestsKeeping}
 use Rattle.world.specs.declared.calls.Call.{Call}
@@ -83,7 +83,7 @@ IsDeliveryKeeping (Some a) client cut i n old new =
 -- the check's request, by its contract
 pub record IsCheckOfKeeping (catalogue : Catalogue) (sent i : ℕ) (c : ClientState) (k : AnsweredCheck) : Type 0 where
   pub seen : IsCheckOf catalogue sent i c k
-  pub lawful : CanCheck (host_of c) (name_of c) k.tag
+  pub lawful : CanCheck (host_of c) (name_of c) (fields_of c) k.tag
 
 abbrev pub IsCheckedKeeping : Catalogue → ℕ → ℕ → ClientState → Option AnsweredCheck → Effect → Type 0
 IsCheckedKeeping catalogue sent i c None effect = (effect ≡ effects.Unchecked i) × (tag_of c ≡ None)

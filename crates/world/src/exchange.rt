@@ -2,7 +2,7 @@
 ghost use Rattle.std.specs.Prelude.{◌≡◌, ℕ, List, Option, Some, IfOk, IsSome, IsSomeAnd, OnErr, slice_get};
 ghost use Rattle.http_range.specs.Ask.{CanCheck};
 ghost use Rattle.http_range.specs.Honest.{IsFront};
-ghost use Rattle.cog_client.specs.Client.{asked_of, host_of, name_of, tag_of};
+ghost use Rattle.cog_client.specs.Client.{asked_of, fields_of, host_of, name_of, tag_of};
 ghost use Rattle.cog_client.specs.Check.{check_of};
 ghost use Rattle.world.specs.declared.event.AnsweredCheck.{AnsweredCheck};
 ghost use Rattle.cog_client.specs.Keeps.{RequestsKeeping, StopsDelivery};
@@ -100,7 +100,7 @@ fn answer_check(
 ) -> Result<AnsweredCheck, Memory>
     requires tag { tag_of client.now ≡ Some tag }
     requires request { check_of client.now ≡ Some request.items }
-    requires lawful { CanCheck (host_of client.now) (name_of client.now) tag }
+    requires lawful { CanCheck (host_of client.now) (name_of client.now) (fields_of client.now) tag }
     ensures { IfOk result (IsCheckOfKeeping server.now.catalogue number i client.now) }
 {
     let answer = server.answer(&request)?;

@@ -4,7 +4,7 @@ ghost use Rattle.client_connection.specs.Status.{after_ask, over};
 ghost use Rattle.cog_client.specs.Client.{ClientState};
 ghost use Rattle.cog_client.specs.Keeps.{RequestsKeeping};
 ghost use Rattle.client_dialogue.specs.declared.step.Step.TheVariants.{More};
-ghost use Rattle.client_dialogue.specs.Goes.{Fails, Goes, Says, Stays, rounds_of};
+ghost use Rattle.client_dialogue.specs.Goes.{Fails, Goes, IsEarlyFor, Says, Stays, rounds_of};
 
 use crate::dialogue::Dialogue;
 use crate::step::Step;
@@ -81,7 +81,8 @@ impl Dialogue {
 
     /// Sends the request `text` early, where a connection is there.
     fn add_early(&mut self, client: &Client, text: &[u8]) -> Result<(), Memory>
-        requires { self.old.asked ≡ true }
+        requires busy { self.old.asked ≡ true }
+        requires own { IsEarlyFor client.now text.now }
         ensures ok { OnOk result (Goes Stays [] self.old client.now self.new client.now) }
         ensures asked { OnOk result (self.new.asked ≡ true) }
         ensures err { OnErr result (Goes Fails [] self.old client.now self.new client.now) }

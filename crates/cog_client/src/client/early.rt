@@ -2,12 +2,14 @@
 ghost use Rattle.std.specs.Prelude.{◌≡◌, ◌≤◌, [], IfOk, IsOk, length, map};
 ghost use Rattle.std.specs.List.{All};
 ghost use Rattle.cog_reader.specs.Early.{AreApart};
-ghost use Rattle.cog_client.specs.declared.request_options.TheConstants.{REQUEST_LIMIT};
+ghost use Rattle.cog_client.specs.declared.request_options.TheConstants.{REQUEST_LIMIT, URL_REQUEST_LIMIT};
+ghost use Rattle.cog_client.specs.Client.{IsPlain};
 ghost use Rattle.cog_client.specs.Early.{AreEarlyRequests, AsksNothingEarly, IsEarly, LeaveNothing};
 
 use crate::client::Client;
 use cog_reader::early_spans;
 use extents::{Memory, Span};
+use http_range::law_requests_are_short;
 
 #[tactic(auto, unfolding(crate::specs::Client::asked_of, crate::specs::Client::blocks_of, crate::specs::Client::reader_of, crate::specs::Client::to_come, crate::specs::Client::Knows))]
 impl Client {
@@ -22,9 +24,11 @@ impl Client {
         ensures requests { IfOk result (λ texts. AreEarlyRequests self.now (map (λ text. text.items) texts.items)) }
         ensures none { AsksNothingEarly self.now → IfOk result (λ texts. texts.items ≡ []) }
         ensures few { IfOk result (λ texts. length texts.items ≤ most) }
-        ensures short { IfOk result (λ texts. All (λ text. length text.items ≤ REQUEST_LIMIT) texts.items) }
+        ensures short { IfOk result (λ texts. All (λ text. IsPlain self.now → length text.items ≤ REQUEST_LIMIT) texts.items) }
+        ensures long { IfOk result (λ texts. All (λ text. length text.items ≤ URL_REQUEST_LIMIT) texts.items) }
         ensures sure { AsksNothingEarly self.now → IsOk result }
     {
+        law_requests_are_short();
         let spans = self.spans_early(most)?;
         let mut texts = Vec::new(self.alloc);
         for span in &spans {

@@ -1,6 +1,6 @@
 //! Clients that are made, and those that aren't.
 use assertion_support::expect_eq;
-use cog_client::{Client, ClientError};
+use cog_client::{Client, ClientError, RequestFields, UrlError};
 use cog_reader_support::of_level;
 use std::alloc::{AllocError, Global};
 use std::test::Fail;
@@ -123,4 +123,88 @@ fn numbers_its_refusals(rt: HostRuntime) {
     ] {
         expect_eq!(rt; refusal.number(), number);
     }
+}
+
+/// An authority, a target and a number of blocks, and why no client is made of them (RFC 3986, section 3; RFC 9112,
+/// section 3.2.1).
+const URLS_REFUSED: [(&[u8], &[u8], u32, UrlError); 12] = [
+    (b"", b"/a", 66, UrlError::Authority),
+    (b"u@h", b"/a", 66, UrlError::Authority),
+    (b"[::1", b"/a", 66, UrlError::Authority),
+    (b"h\r\nA: b", b"/a", 66, UrlError::Authority),
+    (&[b'h'; 256], b"/a", 66, UrlError::Authority),
+    (b"h", b"", 66, UrlError::Target),
+    (b"h", b"a", 66, UrlError::Target),
+    (b"h", b"/a%2", 66, UrlError::Target),
+    (b"h", b"/a HTTP/1.1\r\nA: b", 66, UrlError::Target),
+    (b"h", b"/a", 65, UrlError::Blocks),
+    (b"h", b"/a", 4097, UrlError::Blocks),
+    // The first refusal that holds.
+    (b"", b"", 0, UrlError::Authority),
+];
+
+/// An authority and a target, of which a client is made.
+const URLS_MADE: [(&[u8], &[u8]); 6] = [
+    (b"h", b"/"),
+    (b"h:", b"/a.tif?X-Amz-Signature=0f"),
+    (b"[::1]:8080", b"/year=2020/a%20b+c~d.tif"),
+    (b"127.0.0.1:80", b"//a"),
+    (&[b'h'; 255], b"/a"),
+    (b"a_b.test", b"/?"),
+];
+
+/// The refusal of a client of a URL, if it isn't made.
+fn url_refusal(alloc: Global, authority: &[u8], target: &[u8], blocks: u32) -> Option<UrlError> {
+    match Client::by_url(alloc, authority, target, RequestFields::new(alloc), blocks) {
+        Ok(_client) => None,
+        Err(refusal) => Some(refusal),
+    }
+}
+
+#[test]
+fn refuses_parts_of_urls(rt: HostRuntime) {
+    for (authority, target, blocks, refusal) in &URLS_REFUSED {
+        let found = url_refusal(rt.alloc(), authority, target, *blocks);
+        assert!(rt; found == Some(*refusal), "{authority:?} {target:?}");
+    }
+}
+
+/// The first request of a client of a URL, with these lines.
+fn url_request(
+    alloc: Global,
+    authority: &[u8],
+    target: &[u8],
+    lines: &[u8],
+) -> Result<Vec<u8>, AllocError> {
+    let mut text = Vec::from_slice(alloc, b"GET ")?;
+    text.extend_from_slice(target)?;
+    text.extend_from_slice(b" HTTP/1.1\r\nHost: ")?;
+    text.extend_from_slice(authority)?;
+    text.extend_from_slice(b"\r\nRange: bytes=0-65535\r\n")?;
+    text.extend_from_slice(lines)?;
+    text.extend_from_slice(b"Connection: close\r\n\r\n")?;
+    Ok(text)
+}
+
+#[test]
+fn makes_clients_of_urls(rt: HostRuntime) -> Result<(), Fail> {
+    for (authority, target) in &URLS_MADE {
+        let fields = RequestFields::new(rt.alloc());
+        let mut client = Client::by_url(rt.alloc(), authority, target, fields, 66)?;
+        let request = url_request(rt.alloc(), authority, target, b"")?;
+        assert!(rt; is_new(&mut client, &request), "{authority:?} {target:?}");
+    }
+    Ok(())
+}
+
+#[test]
+fn asks_with_the_lines_of_its_caller(rt: HostRuntime) -> Result<(), Fail> {
+    let mut fields = RequestFields::new(rt.alloc());
+    fields.push(b"Authorization", b"Bearer 0f")?;
+    fields.push(b"User-Agent", b"reader/1.0 (test)")?;
+    let mut client = Client::by_url(rt.alloc(), b"h", b"/a?b", fields, 66)?;
+    let lines = b"Authorization: Bearer 0f\r\nUser-Agent: reader/1.0 (test)\r\n";
+    let request = url_request(rt.alloc(), b"h", b"/a?b", lines)?;
+    assert!(rt; is_new(&mut client, &request));
+    Ok(())
 }

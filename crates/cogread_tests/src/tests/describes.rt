@@ -35,7 +35,7 @@ const PLACE: [f64; 9] = [60.0, 60.0, 0.0, 0.0, 0.0, 0.0, 440720.0, 3751320.0, 0.
 const KEYS: [u16; 16] = [1, 1, 0, 3, 1024, 0, 1, 1, 1025, 0, 1, 2, 3072, 0, 1, 26711];
 
 /// A file whose pixels are points.
-fn points(alloc: Global) -> Result<Vec<u8>, AllocError> {
+pub fn points(alloc: Global) -> Result<Vec<u8>, AllocError> {
     let mut file = Vec::new(alloc);
     push_header(&mut file, Order::Little, 8)?;
     push_directory(&mut file, Order::Little, &FIELDS, 0)?;

@@ -7,8 +7,8 @@ use cog_server::Server;
 use fixtures_support::{f1, f2, f2b};
 use programs::Exit;
 use programs_support::{Capture, Told};
-use read_command::{Asked, Exchanges, Verbosity};
-use read_progress::{Noted, NotedNet};
+use read_command::{Area, Asked, Exchanges, Part};
+use read_progress::{Noted, NotedNet, Printing, Verbosity};
 use std::alloc::{AllocError, Global};
 use std::io;
 use std::rt::Clock;
@@ -19,7 +19,8 @@ use transports::{InMemory, InPieces, Replaced, server_of_one};
 /// The sizes of the pieces in which answers come.
 const SIZES: [usize; 3] = [1, 170, 4096];
 
-/// What is read of a source, in so many exchanges at most, over a runtime, and whether it is written.
+/// What is read of a source, in so many exchanges at most, over a runtime, and whether it is written. A world file is written after the
+/// picture.
 fn read<R: AllocGlobal + Clock, P: Pieces + Drop>(
     capture: &Capture<'_, R>,
     pieces: P,
@@ -32,16 +33,24 @@ fn read<R: AllocGlobal + Clock, P: Pieces + Drop>(
     let Ok(mut client) = Client::new(alloc, b"cog.test", b"a", 66) else {
         return Err(Exit::Memory);
     };
-    let mut noted = Noted::new(alloc, pieces);
+    let net = NotedNet::new(capture);
+    let printing = Printing {
+        rt: capture,
+        net: &net,
+        verbosity: Verbosity::Nothing,
+    };
+    let mut noted = Noted::new(alloc, pieces, printing);
     let exchanges = Exchanges {
         rt: capture,
-        net: &NotedNet::new(capture),
         requests,
-        verbosity: Verbosity::Nothing,
         is_url: false,
     };
     let text = exchanges.text(&mut client, &mut noted, asked)?;
-    Ok(text.write_to(&mut io::writer(capture))?)
+    text.write_to(&mut io::writer(capture))?;
+    match text.world {
+        Some(world) => Ok(print!(capture; "{world}")?),
+        None => Ok(()),
+    }
 }
 
 /// What is printed of what is asked of a source in so many exchanges at most, told and ended with.
@@ -78,6 +87,15 @@ fn window(x: u32, pick: Pick) -> Asked {
     Asked::Query(Query::Window { x, y, w, h, pick })
 }
 
+/// The whole of a level.
+fn whole(level: u32) -> Asked {
+    Asked::Part(Part {
+        area: Area::Whole,
+        level,
+        has_world: false,
+    })
+}
+
 #[test]
 fn prints_what_is_read_or_tells_the_fault(rt: HostRuntime) -> Result<(), Fail> {
     let server = server_of_one(rt.alloc(), 1, b"a", f1(rt.alloc())?)?;
@@ -89,7 +107,7 @@ fn prints_what_is_read_or_tells_the_fault(rt: HostRuntime) -> Result<(), Fail> {
         (Asked::Query(Query::Info), info, "", 0),
         (window(14, Pick::Level(0)), "", outside, 3),
         (window(2, Pick::Level(1)), "", outside, 3),
-        (Asked::Whole { level: 1 }, "", outside, 3),
+        (whole(1), "", outside, 3),
     ] {
         let told = told_of(Capture::new(&rt), &server, query);
         assert!(rt; told.is(out, err, status), "{query:?}: {told:?}");
@@ -101,7 +119,7 @@ fn prints_what_is_read_or_tells_the_fault(rt: HostRuntime) -> Result<(), Fail> {
 #[test]
 fn reads_the_whole_of_a_level(rt: HostRuntime) -> Result<(), Fail> {
     let server = server_of_one(rt.alloc(), 1, b"a", f1(rt.alloc())?)?;
-    let told = told_of(Capture::new(&rt), &server, Asked::Whole { level: 0 });
+    let told = told_of(Capture::new(&rt), &server, whole(0));
     let mut want = Vec::from_slice(rt.alloc(), b"P5\n16 16\n255\n")?;
     for sample in 0..=u8::MAX {
         want.push(sample)?;
@@ -129,12 +147,7 @@ fn told_of_replaced(rt: &HostRuntime, requests: u32) -> Result<Told, Fail> {
     let new = server_of_one(rt.alloc(), 2, b"a", f2b(rt.alloc())?)?;
     let replaced = Replaced::new(&old, &new, b"a", 1);
     let pieces = InPieces::new(rt.alloc(), replaced, &SIZES);
-    Ok(told_over(
-        Capture::new(rt),
-        pieces,
-        requests,
-        Asked::Whole { level: 0 },
-    ))
+    Ok(told_over(Capture::new(rt), pieces, requests, whole(0)))
 }
 
 /// Of the old file an answer tells the sides of its level, and then the new one is there: two answers bring all of it. Its sides are

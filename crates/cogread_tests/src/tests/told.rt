@@ -8,8 +8,8 @@ use cog_server::Server;
 use fixtures_support::f1;
 use programs::Exit;
 use programs_support::{Capture, tell};
-use read_command::{Asked, Exchanges, Verbosity};
-use read_progress::{Noted, NotedNet};
+use read_command::{Asked, Exchanges};
+use read_progress::{Noted, NotedNet, Printing, Verbosity};
 use std::alloc::{AllocError, Global};
 use std::process::Abort;
 use std::rt::Clock;
@@ -47,13 +47,16 @@ fn ask_and_tell<R: Print + Eprint + AllocGlobal + Clock, P: Pieces + Drop>(
     requires { P.count pieces + 3 < 2 ^ 64 }
 {
     let mut client = Client::new(rt.alloc(), b"cog.test", b"a", 66)?;
-    let mut noted = Noted::new(rt.alloc(), pieces);
     let net = NotedNet::new(rt);
-    let exchanges = Exchanges {
+    let printing = Printing {
         rt,
         net: &net,
-        requests: 3,
         verbosity,
+    };
+    let mut noted = Noted::new(rt.alloc(), pieces, printing);
+    let exchanges = Exchanges {
+        rt,
+        requests: 3,
         is_url: false,
     };
     if let Err(error) = exchanges.text(&mut client, &mut noted, Asked::Query(query)) {

@@ -3,7 +3,7 @@ use super::{FaultRow, expect_faults};
 use std::test::Fail;
 
 #[rattlefmt::skip]
-const FAULTS: [FaultRow<'static>; 30] = [
+const FAULTS: [FaultRow<'static>; 42] = [
     // Nobody listens there.
     ("cogread info 127.0.0.1:1 a", "cogread: no report\n", 4),
     ("cogread window 127.0.0.1:1 a 4294967295 0 1 1 --requests 2", "cogread: no report\n", 4),
@@ -26,20 +26,34 @@ const FAULTS: [FaultRow<'static>; 30] = [
     // A URL in the place of a server and a name.
     ("cogread info http://127.0.0.1:1/a", "cogread: no report\n", 4),
     ("cogread window http://127.0.0.1:1/a/b.tif 0 0 1 x", "cogread: not a number: x\n", 2),
-    ("cogread info http://127.0.0.1:1/a+", "cogread: refused 2\n", 2),
-    ("cogread info http://[::1]:1/a", "cogread: refused 1\n", 2),
+    ("cogread info http://127.0.0.1:1/year=2020/a%20b+~.tif?v=1&w", "cogread: no report\n", 4),
+    ("cogread info http://[::1]:1/a", "cogread: no report\n", 4),
     ("cogread describe http://127.0.0.1:1/a", "cogread: no report\n", 4),
-    ("cogread info http://h/a?b", "cogread: not a place: http://h/a?b: the path isn't /NAME as it is asked for, byte for byte\n", 2),
-    ("cogread info http://h/a#b", "cogread: not a place: http://h/a#b: the path isn't /NAME as it is asked for, byte for byte\n", 2),
-    ("cogread info http://h/a/../b", "cogread: not a place: http://h/a/../b: the path isn't /NAME as it is asked for, byte for byte\n", 2),
-    ("cogread info http://h", "cogread: not a place: http://h: the path isn't /NAME as it is asked for, byte for byte\n", 2),
+    ("cogread info http://h/a#b", "cogread: can't read http://h/a#b: path and query can't be asked for as they are typed: write other characters as %XX, and leave out .. and #\n", 2),
+    ("cogread info http://h/a/../b", "cogread: can't read http://h/a/../b: path and query can't be asked for as they are typed: write other characters as %XX, and leave out .. and #\n", 2),
+    ("cogread info http://h/a%2", "cogread: can't read http://h/a%2: not a path with its query\n", 2),
+    ("cogread info http://h", "cogread: can't read http://h: no path after the host: give http://HOST/PATH\n", 2),
+    // Field lines: each has a colon, and a name and a value that requests may have. Values aren't printed.
+    ("cogread info h a --header Bearer", "cogread: no field line: it has no colon. Give --header 'NAME: VALUE'\n", 2),
+    ("cogread info http://h/a --header X:1 --header Host:h", "cogread: no field line: Host: a field that the client writes itself, or that changes the connection or the answer\n", 2),
+    ("cogread info h a --header=X*Y(:1", "cogread: no field line: X*Y(: not a name of a field\n", 2),
+    ("cogread info 127.0.0.1:1 a --header X:1 --header x:", "cogread: no report\n", 4),
     ("cogread info HTTP://127.0.0.1:1/A.tif", "cogread: no report\n", 4),
     (
         "cogread info HttpS://h/a",
-        "cogread: not a place: HttpS://h/a: no TLS is spoken: ask a server in front by http, which asks this one (as nginx with proxy_pass https://..)\n",
+        "cogread: can't read HttpS://h/a: https isn't spoken: use the Python package, or a reverse proxy (as nginx with proxy_pass https://..)\n",
         2,
     ),
-    ("cogread info http://me@h/a", "cogread: not a place: http://me@h/a: a user's name or a password\n", 2),
+    ("cogread info http://me@h/a", "cogread: can't read http://me@h/a: a user's name and a password aren't sent: use --header 'Authorization: Basic ..'\n", 2),
+    // Rectangles: each number is finite, and the rectangle isn't turned over.
+    ("cogread window h a --bounds 1 x 2 3", "cogread: not a number: x. Give --bounds W S E N: four numbers in the file's own coordinates\n", 2),
+    ("cogread window h a --bounds 1 2 nan 3", "cogread: not a number: nan. Give --bounds W S E N: four numbers in the file's own coordinates\n", 2),
+    ("cogread window h a --bounds -inf 2 3 4", "cogread: not a number: -inf. Give --bounds W S E N: four numbers in the file's own coordinates\n", 2),
+    ("cogread window h a --bounds 1 2 3 1e999", "cogread: not a number: 1e999. Give --bounds W S E N: four numbers in the file's own coordinates\n", 2),
+    ("cogread window h a --bounds 2 1 1 2 --level x", "cogread: no rectangle: W is greater than E, or S than N. Give --bounds W S E N\n", 2),
+    ("cogread window h a --bounds 1 -1 2 -2", "cogread: no rectangle: W is greater than E, or S than N. Give --bounds W S E N\n", 2),
+    ("cogread window 127.0.0.1:1 a --bounds -2 -2 -1.5 -1e-5 --level x", "cogread: not a number: x\n", 2),
+    ("cogread window http://127.0.0.1:1/a --bounds -2 -2 -1.5 -1e-5", "cogread: no report\n", 4),
     // As it was before there were URLs: a server and a name.
     ("cogread info http://h/a b", "cogread: refused 1\n", 2),
 ];

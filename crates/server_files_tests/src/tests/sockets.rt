@@ -120,7 +120,7 @@ fn answers_beside_those_who_say_nothing(rt: HostRuntime) -> Result<(), Fail> {
 
 /// The first of the idle ones gives its place away at once, one that began a message after the patience alone.
 #[test]
-fn gives_a_newcomer_a_place(rt: HostRuntime) -> Result<(), Fail> {
+fn gives_a_newcomer_a_slot(rt: HostRuntime) -> Result<(), Fail> {
     let (mut serving, server, address) = serving(&rt, 2)?;
     let _begun = connect(&rt, address, "GET")?;
     let mut idle = connect(&rt, address, "")?;

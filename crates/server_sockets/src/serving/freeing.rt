@@ -2,7 +2,7 @@
 ghost use Rattle.std.specs.Prelude.{◌≡◌, ◌+◌, ◌<◌, ◌↔◌, IsTrue, None, Some, false, length, nat_eq, true};
 ghost use Rattle.std.specs.Map.{remove_entry};
 ghost use Rattle.server_connections.specs.Yielding.{FreesAt, IsFirstOverdue};
-ghost use Rattle.server_sockets.specs.Places.{MayKeepOld, NobodyComes, NoneChanges, accepted_of, frees_of, limits_of, places_of};
+ghost use Rattle.server_sockets.specs.Slots.{MayKeepOld, NobodyComes, NoneChanges, accepted_of, frees_of, limits_of, slots_of};
 
 use crate::serving::Serving;
 use cog_server::Server;
@@ -24,13 +24,13 @@ impl Serving {
 
     /// Closes the connections that keep bytes of a replaced file, have made no progress for the patience at moment `now`, and whose sockets
     /// take none. Notes when the next one will have made none.
-    #[tactic(auto, using(crate::proofs::PlacesLemmas::nobody_yet, crate::proofs::PlacesLemmas::same_on))]
+    #[tactic(auto, using(crate::proofs::SlotLemmas::nobody_yet, crate::proofs::SlotLemmas::same_on))]
     pub(crate) fn free_old_files(&mut self, server: &Server, now: u64)
         ensures nobody { NobodyComes self.old self.new }
         ensures same { NoneChanges self.old self.new }
         ensures drains { self.new.drains ≡ self.old.drains }
-        ensures freed { IsFirstOverdue server.now.catalogue now (limits_of self.old).patience (places_of self.new) None }
-        ensures next { FreesAt server.now.catalogue (limits_of self.old).patience (places_of self.new) (frees_of self.new) }
+        ensures freed { IsFirstOverdue server.now.catalogue now (limits_of self.old).patience (slots_of self.new) None }
+        ensures next { FreesAt server.now.catalogue (limits_of self.old).patience (slots_of self.new) (frees_of self.new) }
     {
         loop {
             if !self.free_one(server, now) {
@@ -48,9 +48,9 @@ impl Serving {
         ensures same { NoneChanges self.old self.new }
         ensures drains { self.new.drains ≡ self.old.drains }
         ensures limits { limits_of self.new ≡ limits_of self.old }
-        ensures taken { result ≡ true → length (places_of self.new) + 1 ≡ length (places_of self.old) }
+        ensures taken { result ≡ true → length (slots_of self.new) + 1 ≡ length (slots_of self.old) }
         ensures no { result ≡ false → (self.new ≡ self.old)
-            × IsFirstOverdue server.now.catalogue now (limits_of self.old).patience (places_of self.old) None }
+            × IsFirstOverdue server.now.catalogue now (limits_of self.old).patience (slots_of self.old) None }
     {
         match self
             .open_connections

@@ -3,19 +3,19 @@
 ghost use Rattle.std.specs.Prelude.{◌≡◌};
 ghost use Rattle.cog_server.specs.Additions.{ServiceState};
 ghost use Rattle.server_sockets.specs.Going.{AllWentOn};
-ghost use Rattle.server_sockets.specs.Places.{NobodyComes, limits_of, places_of};
+ghost use Rattle.server_sockets.specs.Slots.{NobodyComes, limits_of, slots_of};
 ghost use Rattle.server_sockets.specs.Turns.{TriesOne};
 
 use crate::serving::Serving;
 
 impl Serving {
     /// Tries at moment `now` the socket that was tried the longest ago, of those that are to be tried.
-    #[tactic(auto, using(crate::proofs::PlacesLemmas::trying))]
+    #[tactic(auto, using(crate::proofs::SlotLemmas::trying))]
     pub(crate) fn try_socket(&mut self, now: u64)
         ensures nobody { NobodyComes self.old self.new }
         // Nothing is answered, by whatever service.
-        ensures went { (service : ServiceState) → AllWentOn service now (places_of self.old) (places_of self.new) }
-        ensures tried { TriesOne now (limits_of self.old).patience (places_of self.old) (places_of self.new) }
+        ensures went { (service : ServiceState) → AllWentOn service now (slots_of self.old) (slots_of self.new) }
+        ensures tried { TriesOne now (limits_of self.old).patience (slots_of self.old) (slots_of self.new) }
     {
         let Some(number) = self.open_connections.untried(now, self.limits.patience) else {
             return;

@@ -1,7 +1,7 @@
 //! How long a server's sockets wait.
 ghost use Rattle.std.specs.Prelude.{◌≡◌, ◌≢◌, ◌+◌, ◌-◌, ◌*◌, ◌<◌, ◌≤◌, ◌⊎◌, [], IfSome, IsSomeAnd, None, OnOk, false, slice_get, true};
 ghost use Rattle.std.specs.Duration.{as_nanos};
-ghost use Rattle.server_sockets.specs.Places.{IsLookedAt, IsNoted, IsWaitedFor, NobodyComes, NoneChanges, accepted_of, frees_of, limits_of, room_of, TriesBy, TriesIn, WakesBy, WakesIn};
+ghost use Rattle.server_sockets.specs.Slots.{IsLookedAt, IsNoted, IsWaitedFor, NobodyComes, NoneChanges, accepted_of, frees_of, limits_of, slot_count, TriesBy, TriesIn, WakesBy, WakesIn};
 
 use crate::events::note;
 use crate::moments::earlier;
@@ -15,7 +15,7 @@ const RETRY: u64 = 1_000;
 impl Serving {
     /// Waits until a connection is ready, one is in the listen backlog, or a moment comes at which something is due. Notes what the system
     /// reports.
-    #[tactic(auto, using(crate::proofs::PlacesLemmas::nobody_yet))]
+    #[tactic(auto, using(crate::proofs::SlotLemmas::nobody_yet))]
     pub fn wait(&mut self, now: u64) -> io::Result<()>
         ensures noted { OnOk result (IsNoted self.old self.new) }
         ensures nobody { NobodyComes self.old self.new }
@@ -35,10 +35,10 @@ impl Serving {
     fn looks_at(&self, now: u64) -> Option<u64>
         ensures starved { (self.now.out_of_descriptors ≡ true) ⊎ (self.now.is_barred ≡ true) → self.now.accept_pending ≡ true
             → accepted_of self.now < (limits_of self.now).connections → IsSomeAnd result (λ moment. moment ≤ now + 1000) }
-        ensures place { self.now.is_barred ≡ false → self.now.accept_pending ≡ true
-            → accepted_of self.now < (limits_of self.now).connections → room_of self.now ≢ 1 → WakesBy self.now result }
+        ensures slot { self.now.is_barred ≡ false → self.now.accept_pending ≡ true
+            → accepted_of self.now < (limits_of self.now).connections → slot_count self.now ≢ 1 → WakesBy self.now result }
         ensures tries { self.now.is_barred ≡ false → self.now.accept_pending ≡ true
-            → accepted_of self.now < (limits_of self.now).connections → room_of self.now ≢ 1 → TriesBy self.now result }
+            → accepted_of self.now < (limits_of self.now).connections → slot_count self.now ≢ 1 → TriesBy self.now result }
         ensures idle { self.now.accept_pending ≡ false → result ≡ None }
         ensures only { IfSome result (IsLookedAt now self.now) }
     {
@@ -49,7 +49,7 @@ impl Serving {
             return Some(now.saturating_add(RETRY));
         }
         let patience = self.limits.patience;
-        let place = earlier(
+        let slot = earlier(
             self.open_connections.wakes_at(patience),
             self.open_connections.tries_at(patience),
         );
@@ -58,7 +58,7 @@ impl Serving {
         } else {
             None
         };
-        earlier(place, again)
+        earlier(slot, again)
     }
 
     /// Returns how long to wait from moment `now` on. It is until a drain ends, a connection has kept bytes of a replaced file for the
@@ -69,10 +69,10 @@ impl Serving {
             IsSomeAnd result (λ wait. as_nanos wait ≤ (drain.ends - now) * 1000000)) }
         ensures starved { (self.now.out_of_descriptors ≡ true) ⊎ (self.now.is_barred ≡ true) → self.now.accept_pending ≡ true
             → accepted_of self.now < (limits_of self.now).connections → IsSomeAnd result (λ wait. as_nanos wait ≤ 1000 * 1000000) }
-        ensures place { self.now.ready.items ≡ [] → self.now.is_barred ≡ false → self.now.accept_pending ≡ true
-            → accepted_of self.now < (limits_of self.now).connections → room_of self.now ≢ 1 → WakesIn now self.now result }
+        ensures slot { self.now.ready.items ≡ [] → self.now.is_barred ≡ false → self.now.accept_pending ≡ true
+            → accepted_of self.now < (limits_of self.now).connections → slot_count self.now ≢ 1 → WakesIn now self.now result }
         ensures tries { self.now.ready.items ≡ [] → self.now.is_barred ≡ false → self.now.accept_pending ≡ true
-            → accepted_of self.now < (limits_of self.now).connections → room_of self.now ≢ 1 → TriesIn now self.now result }
+            → accepted_of self.now < (limits_of self.now).connections → slot_count self.now ≢ 1 → TriesIn now self.now result }
         // No connection keeps bytes of a replaced file unseen.
         ensures frees { IfSome (frees_of self.now) (λ moment. IsSomeAnd result (λ wait. as_nanos wait ≤ (moment - now) * 1000000)) }
         // Where no connection is ready, none is in the backlog, and none keeps bytes of a replaced file, the wait ends with the first

@@ -15,6 +15,7 @@ returns-clause-words c =
       keep = flag_tells found (codes "keep") c.get_flag.result c.get_flag.ensures.none c.get_flag.ensures.value c.get_flag.ensures.other;
       close = flag_tells found (codes "close") c.get_flag-2.result c.get_flag-2.ensures.none c.get_flag-2.ensures.value c.get_flag-2.ensures.other;
       output = option_row found (codes "output") c.get_str-4.result c.get_str-4.ensures;
-      verbose = flag_tells found (codes "verbose") c.get_flag-3.result c.get_flag-3.ensures.none c.get_flag-3.ensures.value c.get_flag-3.ensures.other;
-      progress = flag_tells found (codes "progress") c.get_flag-4.result c.get_flag-4.ensures.none c.get_flag-4.ensures.value c.get_flag-4.ensures.other;
+      world = flag_tells found (codes "world") c.get_flag-3.result c.get_flag-3.ensures.none c.get_flag-3.ensures.value c.get_flag-3.ensures.other;
+      verbose = flag_tells found (codes "verbose") c.get_flag-4.result c.get_flag-4.ensures.none c.get_flag-4.ensures.value c.get_flag-4.ensures.other;
+      progress = flag_tells found (codes "progress") c.get_flag-5.result c.get_flag-5.ensures.none c.get_flag-5.ensures.value c.get_flag-5.ensures.other;
     }

@@ -5,6 +5,7 @@ use Rattle.http_fields.proofs.CommaLemmas.{members_stand_between_commas}
 use Rattle.http_fields.proofs.DecimalLemmas.{decimals_are_read}
 use Rattle.http_fields.proofs.LineLemmas.{lines_are_fields}
 use Rattle.http_fields.proofs.VisibleLemmas.{visible_values}
+use Rattle.http_fields.proofs.RequestLemmas.{requests_may_stand}
 use Rattle.http_fields.proofs.laws.law_parts_are_read.Goals as goal
 
 pub returns : goal.returns
@@ -17,4 +18,5 @@ returns c = record {
   decimals = decimals_are_read;
   lines = lines_are_fields;
   values = visible_values;
+  requests = requests_may_stand;
 }

@@ -23,8 +23,13 @@ const WINDOW_PARTS: &[&str] = &[
     "Keeps one connection for all requests, as long as the server does",
     "--close",
     "Connects anew for each request (the default for SERVER NAME; a URL's connection is kept)",
+    "--header <LINE>",
+    "Adds a field line to each request, as 'NAME: VALUE'; may stand up to 16 times",
     "--whole",
     "The whole of the level, instead of X Y W H",
+    "--bounds <W> <S> <E> <N>",
+    "as numbers in the file's own coordinates",
+    "--world",
     "--output <FILE>",
     "(default: standard output)",
     "--verbose",
@@ -40,7 +45,7 @@ const WINDOW_PARTS: &[&str] = &[
 const HELPS: [(&str, &[&str]); 10] = [
     ("--help", &[
         "Usage: cogtools cogserve FILE..\n",
-        "cogtools cogread http://HOST[:PORT]/NAME\n",
+        "cogtools cogread http://HOST[:PORT]/PATH[?QUERY]\n",
         "cogtools cogserve .. [--allow-origin ORIGIN] [--announce-last] [--verify SECONDS] ..\n",
         "cogtools cogread .. FILE ..\n",
         "cogtools cogserve --listen HOST:PORT --epoch N --connections N [--at-once N] [--patience SECONDS] [--log] NAME=PATH..\n",
@@ -48,7 +53,10 @@ const HELPS: [(&str, &[&str]); 10] = [
         "cogtools cogread info SERVER NAME [--requests N] [--blocks N] [--ahead N] [--keep]\n",
         "cogtools cogread describe SERVER NAME [--json] [--requests N] [--blocks N] [--ahead N] [--keep]\n",
         "cogtools cogread window .. --whole [--level N] ..\n",
-        "cogtools cogread .. http://HOST[:PORT]/NAME .. [--close]\n",
+        "cogtools cogread window .. --bounds W S E N [--level N] ..\n",
+        "cogtools cogread window .. --output FILE --world\n",
+        "cogtools cogread .. http://HOST[:PORT]/PATH[?QUERY] .. [--close]\n",
+        "cogtools cogread .. [--header 'NAME: VALUE']..\n",
         "cogtools cogread .. [--output FILE] [--verbose | --progress]\n",
         "cogtools cogworld [--pieces N] SCRIPT\n",
         "cogtools --version\n",
@@ -135,7 +143,7 @@ fn prints_each_word_with_its_unit_and_default(rt: HostRuntime) -> Result<(), Fai
 }
 
 /// Lines that aren't of their program's form.
-const OTHERS: [&str; 9] = [
+const OTHERS: [&str; 15] = [
     "cogworld",
     "cogworld a b",
     "cogworld --fast a",
@@ -145,6 +153,12 @@ const OTHERS: [&str; 9] = [
     "cogread picture",
     "cogread info h:1",
     "cogread window h:1 a 0 0 1 1 --level 0 --columns 4",
+    "cogread window h:1 a --bounds 1 2 3",
+    "cogread window h:1 a --bounds 1 2 3 4 --whole",
+    "cogread window h:1 a --bounds 1 2 3 4 --columns 4",
+    "cogread window h:1 a 0 0 1 1 --bounds 1 2 3 4",
+    "cogread window h:1 a 0 0 1 1 --world",
+    "cogread window h:1 a 0 0 1 1 --columns 4 --output w.pgm --world",
 ];
 
 /// What clap tells of them stands on standard error.

@@ -2,7 +2,10 @@
 use assertion_support::expect_eq;
 use clap::Error;
 use clap::error::ErrorKind;
-use command_lines::{AskedWords, ReadLine, WindowWords, read_line, serve_line, world_line};
+use command_lines::{
+    AskedWords, BoundsWords, ReadLine, WindowWords, read_line, read_line_with_headers, serve_line,
+    world_line,
+};
 use programs_support::words_of;
 use std::alloc::{AllocError, Global};
 use std::process::Abort;
@@ -37,8 +40,22 @@ const LINE: ReadLine<'static> = ReadLine {
     keep: false,
     close: false,
     output: None,
+    world: false,
     verbose: false,
     progress: false,
+};
+
+const BOUNDS: BoundsWords<'static> = BoundsWords {
+    west: "-1.5",
+    south: "2",
+    east: "-1e-5",
+    north: "4",
+    level: None,
+};
+
+const OF_LEVEL_1: BoundsWords<'static> = BoundsWords {
+    level: Some("1"),
+    ..BOUNDS
 };
 
 const INFO: ReadLine<'static> = ReadLine {
@@ -97,6 +114,15 @@ fn expect_wholes_and_infos(rt: &(impl Abort + AllocGlobal)) -> Result<(), Fail> 
     Ok(())
 }
 
+/// The lines of rectangles, whose numbers may be negative, and of world files.
+#[rattlefmt::skip]
+fn expect_rectangles(rt: &(impl Abort + AllocGlobal)) -> Result<(), Fail> {
+    expect_read(rt, "cogread window h:1 a --bounds -1.5 2 -1e-5 4", &ReadLine { asked: AskedWords::Bounds(BOUNDS), ..LINE })?;
+    expect_read(rt, "cogread window --bounds -1.5 2 -1e-5 4 h:1 --level 1 a", &ReadLine { asked: AskedWords::Bounds(OF_LEVEL_1), ..LINE })?;
+    expect_read(rt, "cogread window h:1 a 2 1 3 2 --output=w.pgm --world", &ReadLine { output: Some("w.pgm"), world: true, ..LINE })?;
+    Ok(())
+}
+
 /// The lines of descriptions.
 #[rattlefmt::skip]
 fn expect_descriptions(rt: &(impl Abort + AllocGlobal)) -> Result<(), Fail> {
@@ -110,7 +136,24 @@ fn expect_descriptions(rt: &(impl Abort + AllocGlobal)) -> Result<(), Fail> {
 fn reads_the_options_of_cogread_anywhere(rt: HostRuntime) -> Result<(), Fail> {
     expect_windows(&rt)?;
     expect_wholes_and_infos(&rt)?;
+    expect_rectangles(&rt)?;
     expect_descriptions(&rt)
+}
+
+/// A line of `cogread` with field lines, and these.
+const WITH_HEADERS: &str = "cogread info --header A:1 h:1 --keep a --header=b:";
+
+#[test]
+fn reads_the_field_lines_of_cogread_in_their_order(rt: HostRuntime) -> Result<(), Fail> {
+    let words = words_of(rt.alloc(), WITH_HEADERS)?;
+    let read = read_line_with_headers(rt.alloc(), &words)?;
+    assert_eq!(rt; read.line, ReadLine { keep: true, ..INFO });
+    assert_eq!(rt; read.headers.as_slice(), ["A:1", "b:"].as_slice());
+    let words = words_of(rt.alloc(), "cogread describe h:1 a")?;
+    let read = read_line_with_headers(rt.alloc(), &words)?;
+    assert_eq!(rt; read.line, DESCRIPTION);
+    assert_eq!(rt; read.headers.len(), 0);
+    Ok(())
 }
 
 /// The options of `cogserve` that add to answers, and the line that has them.

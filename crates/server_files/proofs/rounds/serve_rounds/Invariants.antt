@@ -1,6 +1,6 @@
 use Rattle.std.proofs.Common.{◌≡◌}
 use Rattle.server_files.specs.Publishing.{KeepsOthersThan, names}
-use Rattle.server_sockets.specs.Places.{limits_of}
+use Rattle.server_sockets.specs.Slots.{limits_of}
 use Rattle.server_files.proofs.rounds.serve_rounds.Given as goal
 
 abbrev pub invariant-loop : goal.invariant-loop

@@ -21,7 +21,7 @@ loop-event-preserved-then-eq c =
         | inr this ↦ absurd (other (sym this ∙ listens))
       ];
       marked = is.marked;
-      places = is.places;
+      slots = is.slots;
       same = is.same;
       ended = is.ended;
       cap = is.cap;
@@ -40,7 +40,7 @@ loop-event-preserved c =
     let after = c.queue.new.open_connections in
     let number : c.token-token.result.0 ≡ (event_token e.now).0 = ap (λ t. t.0) c.token-token.ensures in
     let queued : IsQueued c.token-token.result.0 new start after =
-    queued_since old new start before after q.kept q.places is.marked c.token-token.result.0 q.queued in
+    queued_since old new start before after q.kept q.slots is.marked c.token-token.result.0 q.queued in
     record {
       all = seen_more events e _ _ _ is.all c.in-Some.ensures.steps;
       heard = (
@@ -51,14 +51,14 @@ loop-event-preserved c =
         ],
       );
       queued = λ k there other. elim (which_socket events e k there) [
-        | inl earlier ↦ stays_queued old new start before after q.kept q.places k (is.queued k earlier other)
+        | inl earlier ↦ stays_queued old new start before after q.kept q.slots k (is.queued k earlier other)
         | inr this ↦ subst (λ n. IsQueued n new start after) (number ∙ this) queued
       ];
       marked = λ k ready. elim (q.marked k ready) [
         | inl same ↦ subst (λ n. IsQueued n new start after) (sym same) queued
-        | inr earlier ↦ stays_queued old new start before after q.kept q.places k (is.marked k earlier)
+        | inr earlier ↦ stays_queued old new start before after q.kept q.slots k (is.marked k earlier)
       ];
-      places = λ k none. q.places k (is.places k none);
+      slots = λ k none. q.slots k (is.slots k none);
       same = λ k p some. is.same k p (q.same k p some);
       ended = omega (arith, is.ended, q.ended);
       cap = q.cap ∙ is.cap;

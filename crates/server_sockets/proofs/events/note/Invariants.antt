@@ -16,7 +16,7 @@ invariant-loop-event l = record {
   queued : (k : ℕ) → Contains (sockets_of (seen l.yielded)) k → k ≢ LISTENER.0
       → IsQueued k l.ready.items l.fn.open_connections l.open_connections;
   marked : (k : ℕ) → IsReadyAt k l.open_connections → IsQueued k l.ready.items l.fn.open_connections l.open_connections;
-  places : (k : ℕ) → timed_at k l.fn.open_connections.connections.table.entries ≡ None → timed_at k l.open_connections.connections.table.entries ≡ None;
+  slots : (k : ℕ) → timed_at k l.fn.open_connections.connections.table.entries ≡ None → timed_at k l.open_connections.connections.table.entries ≡ None;
   same : (k : ℕ) (p : Timed) → timed_at k l.open_connections.connections.table.entries ≡ Some p → timed_at k l.fn.open_connections.connections.table.entries ≡ Some p;
   ended : l.fn.open_connections.ended ≤ l.open_connections.ended;
   cap : l.open_connections.connections.table.cap ≡ l.fn.open_connections.connections.table.cap;

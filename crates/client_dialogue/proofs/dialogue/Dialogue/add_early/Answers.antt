@@ -13,7 +13,7 @@ returns-then-is_err-clause-err c =
     let over = err_by c.send_early.result _ (sym c.is_err.ensures.value ∙ c.if-is_err.true) c.send_early.ensures.err in
     subst (λ (x : Talk). Goes Fails [] x d (record t { status = c.send_early.new.self; asked = false }) d) c.self.view_is
     (subst (λ (s : Status). Goes Fails [] t d (record t { status = s; asked = false }) d) (sym over)
-    (let_go_goes t d (ap (λ (x : Talk). x.asked) c.self.view_is ∙ c.requires)))
+    (let_go_goes t d (ap (λ (x : Talk). x.asked) c.self.view_is ∙ c.requires.busy)))
 
 pub returns-clause-ok : goal.returns-clause-ok
 returns-clause-ok c =
@@ -22,4 +22,4 @@ returns-clause-ok c =
     let sent = ok_by c.send_early.result _ (sym c.is_err.ensures.value ∙ c.if-is_err.false) c.send_early.ensures.ok in
     subst (λ (x : Talk). Goes Stays [] x d (record t { status = c.send_early.new.self }) d) c.self.view_is
     (subst (λ (s : Status). Goes Stays [] t d (record t { status = s }) d) (sym sent)
-    (early_goes t d c.args.text.now (ap (λ (x : Talk). x.asked) c.self.view_is ∙ c.requires) (sym c.is_open.ensures.is ∙ c.if-not-is_open.false)))
+    (early_goes t d c.args.text.now (ap (λ (x : Talk). x.asked) c.self.view_is ∙ c.requires.busy) (sym c.is_open.ensures.is ∙ c.if-not-is_open.false) c.requires.own))

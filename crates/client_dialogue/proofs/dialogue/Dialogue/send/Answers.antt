@@ -13,14 +13,14 @@ returns-in_err-put-clause-err c = on_err c.from_residual.result _ (λ before ask
 
 pub returns-in_err-send_early-clause-err : goal.returns-in_err-send_early-clause-err
 returns-in_err-send_early-clause-err c = on_err c.from_residual-in_err-send_early.result _ (λ before asks.
-    then_goes Fails [] c.args.self.now before c.put.new.self c.args.client.now c.send_early.new.self c.args.client.now
+    then_goes Fails [] c.args.self.now before c.put.new.self c.args.client.now c.send_early.new.self
     (subst (λ (x : Talk). Goes Stays [] c.args.self.now before x c.args.client.now) (sym c.in_ok-put.ensures.ok)
     (put_goes c.law_answers_begin_anywhere.ensures c.args.self.now before c.args.client.now c.args.text.now c.requires.idle c.requires.some asks))
     c.in_err-send_early.ensures.err)
 
 pub returns-clause-ok : goal.returns-clause-ok
 returns-clause-ok c = λ before asks.
-    then_goes Stays [] c.args.self.now before c.put.new.self c.args.client.now c.send_early.new.self c.args.client.now
+    then_goes Stays [] c.args.self.now before c.put.new.self c.args.client.now c.send_early.new.self
     (subst (λ (x : Talk). Goes Stays [] c.args.self.now before x c.args.client.now) (sym c.in_ok-put.ensures.ok)
     (put_goes c.law_answers_begin_anywhere.ensures c.args.self.now before c.args.client.now c.args.text.now c.requires.idle c.requires.some asks))
     c.in_ok-send_early.ensures.ok

@@ -1,5 +1,6 @@
 use Rattle.std.proofs.Common.{[]}
 use Rattle.client_dialogue.specs.Goes.{Fails, Stays}
+use Rattle.client_dialogue.proofs.EarlyLemmas.{item_early}
 use Rattle.client_dialogue.proofs.HistoryLemmas.{stays_goes, then_goes}
 use Rattle.client_dialogue.proofs.Results.{on_err}
 use Rattle.client_dialogue.proofs.dialogue.Dialogue.send_early.Goals as goal
@@ -7,19 +8,25 @@ use Rattle.client_dialogue.proofs.dialogue.Dialogue.send_early.Goals as goal
 pub loop-request-init : goal.loop-request-init
 loop-request-init c = (stays_goes c.args.self.now c.args.client.now, c.requires)
 
-pub add_early-requires : goal.add_early-requires
-add_early-requires c = c.loop-request.invariant.1
+pub add_early-requires-clause-busy : goal.add_early-requires-clause-busy
+add_early-requires-clause-busy c = c.loop-request.invariant.1
+
+pub add_early-requires-clause-own : goal.add_early-requires-clause-own
+add_early-requires-clause-own c =
+    item_early c.args.client.now c.in-Ok.requests.items c.deref.result.now c.unsent-request-items.result.now _ c.loop-request.request-index
+    c.request-item.result c.deref-in-loop-request.result.now c.in-Ok.ensures.requests c.deref.ensures.value c.unsent-request-items.ensures.rest
+    c.loop-request-test.true c.request-item.is c.deref-in-loop-request.ensures.value
 
 pub returns-in_err-add_early-clause-err : goal.returns-in_err-add_early-clause-err
 returns-in_err-add_early-clause-err c =
     let d = c.args.client.now in
     on_err c.from_residual.result _
-    (then_goes Fails [] c.args.self.now d c.loop-request.self d c.add_early.new.self d c.loop-request.invariant.0 c.in_err-add_early.ensures.err)
+    (then_goes Fails [] c.args.self.now d c.loop-request.self d c.add_early.new.self c.loop-request.invariant.0 c.in_err-add_early.ensures.err)
 
 pub loop-request-preserved : goal.loop-request-preserved
 loop-request-preserved c =
     let d = c.args.client.now in (
-      then_goes Stays [] c.args.self.now d c.loop-request.self d c.add_early.new.self d c.loop-request.invariant.0 c.in_ok-add_early.ensures.ok,
+      then_goes Stays [] c.args.self.now d c.loop-request.self d c.add_early.new.self c.loop-request.invariant.0 c.in_ok-add_early.ensures.ok,
       c.in_ok-add_early.ensures.asked,
     )
 

@@ -2,7 +2,7 @@ use Rattle.std.proofs.Common.{[], ◌∷◌, arith, length, length-append, sym, 
 use Rattle.std.specs.List.{All}
 use Rattle.std.proofs.lemmas.List.Elements.{All-push}
 use Rattle.cog_client.proofs.EarlyLemmas.{one_more}
-use Rattle.cog_client.proofs.LengthLemmas.{IsShort, short_by}
+use Rattle.cog_client.proofs.LengthLemmas.{IsShort, IsWithin, short_by, within_by}
 use Rattle.cog_client.proofs.client.Client.early_requests.Goals as goal
 
 pub loop-span-preserved : goal.loop-span-preserved
@@ -18,5 +18,8 @@ loop-span-preserved c =
           one_more c.args.self.now c.deref-span-items.result.now before c.push.new.self.items at c.span-item.result text pushed c.loop-span-test.true c.span-item.is c.loop-span.invariant.asks
           (record { asks = asks.text; lawful = asks.lawful });
       few = ap length pushed ∙ omega (arith, few, length-append before (text ∷ []));
-      short = subst (All IsShort) (sym pushed) (All-push IsShort before text c.loop-span.invariant.short (short_by c.args.self.now c.span-item.result text asks.text asks.lawful));
+      short = subst (All (IsShort c.args.self.now)) (sym pushed)
+          (All-push (IsShort c.args.self.now) before text c.loop-span.invariant.short (short_by c.law_requests_are_short.ensures c.args.self.now c.span-item.result text asks.text asks.lawful));
+      long = subst (All IsWithin) (sym pushed)
+          (All-push IsWithin before text c.loop-span.invariant.long (within_by c.law_requests_are_short.ensures c.args.self.now c.span-item.result text asks.text asks.lawful));
     }

@@ -2,13 +2,13 @@ use Rattle.std.proofs.Common.{◌≡◌, Some, None, true, false, sym, ap, subst
 use Rattle.std.specs.Prelude.{is_some, not}
 use Rattle.std.proofs.lemmas.Bool.{false≢true}
 use Rattle.http_range.specs.Ask.{CanAsk}
-use Rattle.cog_client.specs.Client.{ClientState, ahead_of, asked_of, feed_of, host_of, name_of, query_of, report_of, revision_of, tag_of}
+use Rattle.cog_client.specs.Client.{ClientState, ahead_of, asked_of, feed_of, fields_of, host_of, name_of, query_of, report_of, revision_of, tag_of}
 use Rattle.cog_client.specs.Calls.{IsIdle, request_for}
 use Rattle.cog_client.specs.Keeps.{AsksFor, GoesOnKeeping, Misses, StopsAsking}
 use Rattle.cog_client.proofs.GoingLemmas.{refused}
 use Rattle.cog_client.proofs.ClientLemmas.{goes_trans, known}
-use Rattle.cog_client.proofs.LengthLemmas.{short_by}
-use Rattle.cog_client.proofs.RequestLemmas.{asking_sound, busy, none_asked, none_of, requested, requests_none, unasked}
+use Rattle.cog_client.proofs.LengthLemmas.{short_by, within_by}
+use Rattle.cog_client.proofs.RequestLemmas.{asking_sound, busy, none_asked, none_of, plain_as, requested, requests_none, unasked}
 use Rattle.cog_client.proofs.client.Client.request.Goals.{then-is_none-via-then-is_none, then-is_none-via-else-is_none+then-is_some}
 use Rattle.cog_client.proofs.client.Client.request.Goals as goal
 
@@ -55,7 +55,7 @@ returns-clause-ok c =
     (asking_sound j.partial_answer j.how j.host.items j.name.items j.query j.asked j.source j.cache j.report c.in-Some.span c.self-2.invariant silent asks)
     (ap (λ (k : ClientState). is_some (query_of k)) (sym c.self.view_is) ∙ some) (ap (λ (k : ClientState). is_some (report_of k)) (sym c.self.view_is) ∙ quiet) silent (ap feed_of m ∙ e.feed ∙ c.clear.ensures)
     (c.in_ok-text.ensures.text ∙ ap (λ k. request_for k (Some c.in-Some.span)) (sym m))
-    (subst (λ k. CanAsk (host_of k) (name_of k) c.in-Some.span.first c.in-Some.span.last (tag_of k)) (sym m) c.request_for.ensures.lawful) asks
+    (subst (λ k. CanAsk (host_of k) (name_of k) (fields_of k) c.in-Some.span.first c.in-Some.span.last (tag_of k)) (sym m) c.request_for.ensures.lawful) asks
 
 pub returns-then-is_none-clause-ok : goal.returns-then-is_none-clause-ok
 unfolding asked_of query_of report_of feed_of
@@ -99,4 +99,14 @@ returns-in_default-clause-ok c =
     (subst (Misses c.missing.new.self) c.in_default.is e.ok) (λ some. absurd (false≢true (sym quiet_before ∙ some))) (e.feed ∙ c.clear.ensures)
 
 pub returns-clause-short : goal.returns-clause-short
-returns-clause-short c = short_by c.missing.new.self c.in-Some.span c.in_ok-text.text c.in_ok-text.ensures.text c.request_for.ensures.lawful
+returns-clause-short c = λ plain.
+    let i = c.self.inside in
+    let before = known c.clear.new.self i.how i.host.items i.name.items i.query None i.source i.cache i.report in
+    let old : GoesOnKeeping c.args.self.now before = subst (λ k. GoesOnKeeping k before) c.self.view_is (unasked i.partial_answer c.clear.new.self c.clear.ensures i.how i.host.items i.name.items i.query i.asked i.source i.cache i.report c.self.invariant) in
+    let goes = goes_trans c.args.self.now before c.missing.new.self old c.in_ok-span.ensures.goes in
+    short_by c.law_requests_are_short.ensures c.missing.new.self c.in-Some.span c.in_ok-text.text c.in_ok-text.ensures.text c.request_for.ensures.lawful
+    (plain_as c.args.self.now c.missing.new.self goes.seen.same plain)
+
+pub returns-clause-long : goal.returns-clause-long
+returns-clause-long c =
+    within_by c.law_requests_are_short.ensures c.missing.new.self c.in-Some.span c.in_ok-text.text c.in_ok-text.ensures.text c.request_for.ensures.lawful

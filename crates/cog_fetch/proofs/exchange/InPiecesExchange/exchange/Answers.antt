@@ -1,68 +1,50 @@
-use Rattle.std.proofs.Common.{true, inr, sym, subst}
-use Rattle.cog_client.specs.Transport.{IsTrueToAll}
+use Rattle.std.proofs.Common.{◌≡◌, Bool, Some, sym, subst, true}
+use Rattle.cog_client.specs.Transport.{TakesOrLoses}
 use Rattle.cog_fetch.specs.Takes.{StopsWithin, TakenOf}
-use Rattle.cog_fetch.proofs.TakeLemmas.{keeps_taking, refused, stops_of, taken_of, taken_on}
+use Rattle.cog_fetch.proofs.FetchLemmas.{takes_as}
+use Rattle.cog_fetch.proofs.TakeLemmas.{keeps_later, refused, taken_on}
 use Rattle.cog_fetch.proofs.exchange.InPiecesExchange.exchange.Goals as goal
 
-pub returns-in_err-take_answer-in-Ok-clause-keeps : goal.returns-in_err-take_answer-in-Ok-clause-keeps
-returns-in_err-take_answer-in-Ok-clause-keeps g c =
-    let speaks = g.P.Pieces.speaks_for c.args.source.now in
-    let told = c.foresee.ensures in
-    keeps_taking speaks (g.P.Pieces.speaks_for c.foresee.new.source) (g.P.Pieces.speaks_for c.take_answer.new.pieces) (g.P.Pieces.rest c.foresee.new.source)
-    c.args.client.now c.take_answer.new.client (λ p spoken. told.speaks p (c.in-Ok.ensures.speaks p spoken)) c.take_answer.ensures.speaks
-    (subst (IsTrueToAll speaks) (sym told.rest) c.in-Ok.ensures.shows) c.take_answer.ensures.takes
+pub returns-in_err-exchange_in_pieces-clause-keeps : goal.returns-in_err-exchange_in_pieces-clause-keeps
+returns-in_err-exchange_in_pieces-clause-keeps g c =
+    keeps_later (g.P.Pieces.speaks_for c.args.source.now) (g.P.Pieces.speaks_for c.exchange_begins.new.self)
+    (g.P.Pieces.speaks_for c.exchange_in_pieces.new.source) c.args.client.now c.exchange_in_pieces.new.client c.exchange_begins.ensures.speaks
+    c.exchange_in_pieces.ensures.keeps
 
-pub returns-in_ok-take_answer-in-Ok-clause-keeps : goal.returns-in_ok-take_answer-in-Ok-clause-keeps
-returns-in_ok-take_answer-in-Ok-clause-keeps g c =
-    let speaks = g.P.Pieces.speaks_for c.args.source.now in
-    let told = c.foresee.ensures in
-    keeps_taking speaks (g.P.Pieces.speaks_for c.foresee.new.source) (g.P.Pieces.speaks_for c.take_answer.new.pieces) (g.P.Pieces.rest c.foresee.new.source)
-    c.args.client.now c.take_answer.new.client (λ p spoken. told.speaks p (c.in-Ok.ensures.speaks p spoken)) c.take_answer.ensures.speaks
-    (subst (IsTrueToAll speaks) (sym told.rest) c.in-Ok.ensures.shows) c.take_answer.ensures.takes
-
-pub returns-in_ok-take_answer-in-Ok-clause-takes : goal.returns-in_ok-take_answer-in-Ok-clause-takes
-returns-in_ok-take_answer-in-Ok-clause-takes g c =
-    let told = c.foresee.ensures in
-    let t = c.in_ok-take_answer-in-Ok.ensures.ok in
-    inr (
-      t.0,
-      t.2,
-      taken_of (g.P.Pieces.speaks_for c.args.source.now) (g.P.Pieces.speaks_for c.foresee.new.source) (g.P.Pieces.answers c.args.source.now)
-          (g.P.Pieces.has_lost c.take_answer.new.pieces) c.args.request.now (g.P.Pieces.rest c.start.new.self) (g.P.Pieces.rest c.foresee.new.source) t.0
-          (λ p spoken. told.speaks p (c.in-Ok.ensures.speaks p spoken)) c.in-Ok.ensures.answered told.rest t.1,
-      t.3,
-    )
-
-pub returns-in_err-take_answer-in-Ok-clause-stops : goal.returns-in_err-take_answer-in-Ok-clause-stops
-returns-in_err-take_answer-in-Ok-clause-stops g c =
+pub returns-in_err-exchange_in_pieces-clause-stops : goal.returns-in_err-exchange_in_pieces-clause-stops
+returns-in_err-exchange_in_pieces-clause-stops g c =
     let speaks = g.P.Pieces.speaks_for c.args.source.now in
     let answers = g.P.Pieces.answers c.args.source.now in
-    let told = c.foresee.ensures in
-    let t = c.in_err-take_answer-in-Ok.ensures.err in
-    refused c.from_residual.result (StopsWithin (TakenOf speaks answers true) c.args.request.now c.args.client.now c.take_answer.new.client)
-    (stops_of speaks (g.P.Pieces.speaks_for c.foresee.new.source) answers c.args.request.now (g.P.Pieces.rest c.start.new.self) (g.P.Pieces.rest c.foresee.new.source) t.0
-    c.args.client.now c.take_answer.new.client (λ p spoken. told.speaks p (c.in-Ok.ensures.speaks p spoken)) c.in-Ok.ensures.answered told.rest t.1 t.2)
+    let begun = c.exchange_begins.new.self in
+    let t = c.in_err-exchange_in_pieces.ensures.stops in
+    let on = taken_on speaks (g.P.Pieces.speaks_for begun) answers (g.P.Pieces.answers begun) c.exchange_begins.ensures.speaks c.exchange_begins.ensures.goes_on true in
+    refused c.from_residual.result (StopsWithin (TakenOf speaks answers true) c.args.request.now c.args.client.now c.exchange_in_pieces.new.client)
+    (t.0, on c.args.request.now (Some t.0) t.1, t.2)
 
-pub returns-in_err-take_answer-in-Ok-clause-goes_on : goal.returns-in_err-take_answer-in-Ok-clause-goes_on
-returns-in_err-take_answer-in-Ok-clause-goes_on g c =
-    let start = c.in-Ok.ensures in
-    let told = c.foresee.ensures in
-    let takes = c.take_answer.ensures in
-    taken_on (g.P.Pieces.speaks_for c.args.source.now) (g.P.Pieces.speaks_for c.take_answer.new.pieces) (g.P.Pieces.answers c.args.source.now)
-    (g.P.Pieces.answers c.take_answer.new.pieces) (λ p spoken. takes.speaks p (told.speaks p (start.speaks p spoken)))
-    (λ request came is. start.goes_on request came (told.goes_on request came (takes.goes_on request came is)))
+pub returns-in_err-exchange_in_pieces-clause-goes_on : goal.returns-in_err-exchange_in_pieces-clause-goes_on
+returns-in_err-exchange_in_pieces-clause-goes_on g c =
+    let begun = c.exchange_begins.ensures in
+    let made = c.exchange_in_pieces.ensures in
+    taken_on (g.P.Pieces.speaks_for c.args.source.now) (g.P.Pieces.speaks_for c.exchange_in_pieces.new.source) (g.P.Pieces.answers c.args.source.now)
+    (g.P.Pieces.answers c.exchange_in_pieces.new.source) (λ p spoken. made.speaks p (begun.speaks p spoken))
+    (λ request came is. begun.goes_on request came (made.goes_on request came is))
 
-pub returns-in_ok-take_answer-in-Ok-clause-goes_on : goal.returns-in_ok-take_answer-in-Ok-clause-goes_on
-returns-in_ok-take_answer-in-Ok-clause-goes_on g c =
-    let start = c.in-Ok.ensures in
-    let told = c.foresee.ensures in
-    let takes = c.take_answer.ensures in
-    taken_on (g.P.Pieces.speaks_for c.args.source.now) (g.P.Pieces.speaks_for c.take_answer.new.pieces) (g.P.Pieces.answers c.args.source.now)
-    (g.P.Pieces.answers c.take_answer.new.pieces) (λ p spoken. takes.speaks p (told.speaks p (start.speaks p spoken)))
-    (λ request came is. start.goes_on request came (told.goes_on request came (takes.goes_on request came is)))
+pub returns-clause-takes : goal.returns-clause-takes
+returns-clause-takes g c =
+    let speaks = g.P.Pieces.speaks_for c.args.source.now in
+    let answers = g.P.Pieces.answers c.args.source.now in
+    let begun = c.exchange_begins.new.self in
+    let lost = g.P.Pieces.has_lost c.exchange_in_pieces.new.source in
+    let on = taken_on speaks (g.P.Pieces.speaks_for begun) answers (g.P.Pieces.answers begun) c.exchange_begins.ensures.speaks c.exchange_begins.ensures.goes_on lost in
+    subst (λ (b : Bool). TakesOrLoses (TakenOf speaks answers b) c.args.request.now c.args.client.now c.exchange_in_pieces.new.client) (sym c.exchange_ends.ensures.kept)
+    (takes_as (TakenOf speaks answers lost) (TakenOf (g.P.Pieces.speaks_for begun) (g.P.Pieces.answers begun) lost) on c.args.request.now c.args.client.now
+    c.exchange_in_pieces.new.client c.in_ok-exchange_in_pieces.ensures.takes)
 
-pub returns-in-Err-clause-goes_on : goal.returns-in-Err-clause-goes_on
-returns-in-Err-clause-goes_on g c =
-    let e = c.start.ensures in
-    taken_on (g.P.Pieces.speaks_for c.args.source.now) (g.P.Pieces.speaks_for c.start.new.self) (g.P.Pieces.answers c.args.source.now)
-    (g.P.Pieces.answers c.start.new.self) e.speaks e.goes_on
+pub returns-clause-goes_on : goal.returns-clause-goes_on
+returns-clause-goes_on g c =
+    let begun = c.exchange_begins.ensures in
+    let made = c.exchange_in_pieces.ensures in
+    let ended = c.exchange_ends.ensures in
+    taken_on (g.P.Pieces.speaks_for c.args.source.now) (g.P.Pieces.speaks_for c.exchange_ends.new.self) (g.P.Pieces.answers c.args.source.now)
+    (g.P.Pieces.answers c.exchange_ends.new.self) (λ p spoken. ended.speaks p (made.speaks p (begun.speaks p spoken)))
+    (λ request came is. begun.goes_on request came (made.goes_on request came (ended.goes_on request came is)))

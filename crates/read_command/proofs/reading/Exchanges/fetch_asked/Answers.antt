@@ -1,12 +1,25 @@
-use Rattle.std.proofs.Common.{◌≡◌, ◌≢◌, ◌∙◌, ℕ, subst, sym}
-use Rattle.read_command.specs.declared.reading.Asked.TheVariants.{Whole}
+use Rattle.std.proofs.Common.{◌≢◌, ◌∙◌, None, refl, subst, sym, zero}
+use Rattle.read_command.specs.declared.part.Part.{Part as APart}
+use Rattle.read_command.specs.declared.reading.Asked.TheVariants.{Part}
 use Rattle.read_command.specs.declared.reading.Asked.{Asked}
 use Rattle.read_command.specs.Text.{IsFor}
-use Rattle.read_command.specs.Exchanges.{AsksOf, IsAskedFor}
-use Rattle.read_command.proofs.OpenLemmas.{asks_query, asks_same, description_whole, ended, on_ok, query_whole, opened_reads, reads_one, stops_one}
+use Rattle.read_command.specs.Exchanges.{IsAskedFor}
+use Rattle.read_command.proofs.OpenLemmas.{asks_query, asks_same, description_part, ends_for, ends_of, query_part, opened_reads, reads_more, stops_more}
 use Rattle.http_range.specs.Book.{Publication}
 use Rattle.read_command.proofs.reading.Exchanges.fetch_asked.Goals.{in-Query, in-Description}
 use Rattle.read_command.proofs.reading.Exchanges.fetch_asked.Goals as goal
+
+pub returns-in_err-fetch-clause-reads : goal.returns-in_err-fetch-clause-reads
+returns-in_err-fetch-clause-reads g c = λ book reads.
+    c.fetch.ensures.keeps.reads book (opened_reads _ c.match-asked.query c.args.client.now c.open.new.self book c.open.ensures reads)
+
+pub returns-in_err-fetch-clause-stops : goal.returns-in_err-fetch-clause-stops
+returns-in_err-fetch-clause-stops g c =
+    let for : IsAskedFor c.args.asked c.match-asked.query = elim c.match-asked.branch [
+      | in-Query w ↦ subst (λ (a : Asked). IsAskedFor a c.match-asked.query) (sym w.in-Query.is) w.query-is
+      | in-Description w ↦ subst (λ (a : Asked). IsAskedFor a c.match-asked.query) (sym w.in-Description.is) w.query-is
+    ] in
+    stops_more c.from_residual.result c.args.asked c.match-asked.query c.args.client.now c.args.client.now c.open.new.self c.fetch.new.client for (zero, refl) c.open.ensures c.in_err-fetch.ensures.stops
 
 pub returns-clause-reads : goal.returns-clause-reads
 returns-clause-reads g c = λ book reads.
@@ -15,20 +28,20 @@ returns-clause-reads g c = λ book reads.
 pub returns-clause-asks : goal.returns-clause-asks
 returns-clause-asks g c = λ book reads.
     let is = asks_query _ _ c.match-asked.query c.args.client.now c.open.new.self c.fetch.new.client c.open.ensures c.fetch.ensures.keeps in
-    let for : (p : Publication) → IsFor p.file c.args.asked c.match-asked.query = elim c.match-asked.branch [
-      | in-Query w ↦ λ p. subst (λ (a : Asked). IsFor p.file a c.match-asked.query) (sym w.in-Query.is) w.query-is
-      | in-Description w ↦ λ p. subst (λ (a : Asked). IsFor p.file a c.match-asked.query) (sym w.in-Description.is) w.query-is
+    let for : (p : Publication) → IsFor p.file c.args.asked c.match-asked.query None = elim c.match-asked.branch [
+      | in-Query w ↦ λ p. subst (λ (a : Asked). IsFor p.file a c.match-asked.query None) (sym w.in-Query.is) (w.query-is, refl)
+      | in-Description w ↦ λ p. subst (λ (a : Asked). IsFor p.file a c.match-asked.query None) (sym w.in-Description.is) (w.query-is, refl)
     ] in
-    on_ok c.fetch.result (AsksOf book c.args.asked c.fetch.new.client) (asks_same book c.args.asked c.match-asked.query c.fetch.new.client is for)
+    asks_same book c.args.asked c.match-asked.query None c.fetch.new.client is for
 
 pub returns-clause-ends : goal.returns-clause-ends
 returns-clause-ends g c =
     let is = asks_query _ _ c.match-asked.query c.args.client.now c.open.new.self c.fetch.new.client c.open.ensures c.fetch.ensures.keeps in
-    let other : (level : ℕ) → c.args.asked ≢ Whole level = elim c.match-asked.branch [
-      | in-Query w ↦ λ level same. query_whole _ level (sym w.in-Query.is ∙ same)
-      | in-Description w ↦ λ level same. description_whole _ level (sym w.in-Description.is ∙ same)
+    let other : (part : APart) → c.args.asked ≢ Part part = elim c.match-asked.branch [
+      | in-Query w ↦ λ part same. query_part _ part (sym w.in-Query.is ∙ same)
+      | in-Description w ↦ λ part same. description_part _ part (sym w.in-Description.is ∙ same)
     ] in
-    ended c.fetch.result c.args.asked c.match-asked.query c.args.client.now c.fetch.new.client _ _ other is c.fetch.ensures.ends
+    ends_for c.args.asked c.args.client.now c.fetch.new.client _ _ other (ends_of c.match-asked.query c.fetch.new.client _ _ is c.in_ok-fetch.ensures.ends)
 
 pub returns-clause-queries : goal.returns-clause-queries
 returns-clause-queries g c =
@@ -36,12 +49,4 @@ returns-clause-queries g c =
       | in-Query w ↦ subst (λ (a : Asked). IsAskedFor a c.match-asked.query) (sym w.in-Query.is) w.query-is
       | in-Description w ↦ subst (λ (a : Asked). IsAskedFor a c.match-asked.query) (sym w.in-Description.is) w.query-is
     ] in
-    reads_one c.fetch.result c.args.asked c.match-asked.query c.args.client.now c.open.new.self c.fetch.new.client for c.open.ensures c.fetch.ensures.fetches
-
-pub returns-clause-stops : goal.returns-clause-stops
-returns-clause-stops g c =
-    let for : IsAskedFor c.args.asked c.match-asked.query = elim c.match-asked.branch [
-      | in-Query w ↦ subst (λ (a : Asked). IsAskedFor a c.match-asked.query) (sym w.in-Query.is) w.query-is
-      | in-Description w ↦ subst (λ (a : Asked). IsAskedFor a c.match-asked.query) (sym w.in-Description.is) w.query-is
-    ] in
-    stops_one c.fetch.result c.args.asked c.match-asked.query c.args.client.now c.open.new.self c.fetch.new.client for c.open.ensures c.fetch.ensures.stops
+    reads_more c.args.asked c.match-asked.query c.args.client.now c.args.client.now c.open.new.self c.fetch.new.client for (zero, refl) c.open.ensures c.in_ok-fetch.ensures.fetches

@@ -1,8 +1,16 @@
-use Rattle.read_command.proofs.WholeLemmas.{true_of_book}
+use Rattle.std.proofs.Common.{refl}
+use Rattle.read_command.proofs.PartLemmas.{beside_text, true_of_book}
 use Rattle.read_command.proofs.reading.Exchanges.text.Goals as goal
 
-pub returns-clause-truth : goal.returns-clause-truth
-returns-clause-truth g c book reads tells =
+pub returns-in-Ok-clause-truth : goal.returns-in-Ok-clause-truth
+returns-in-Ok-clause-truth g c book reads tells =
     let client = c.fetch_used-fetched.new.client in
-    let w = c.text_at.ensures.written tells in
-    true_of_book _ book c.args.asked client w.0 c.text_at.result reads.named (c.in_ok-fetched.ensures.reads book reads).agrees w.1 (c.in_ok-fetched.ensures.asks book reads) w.2
+    let w = c.in-Ok.ensures.written tells in
+    true_of_book _ book c.args.asked client w.0 _ _ reads.named (c.in_ok-world.ensures.reads book reads).agrees w.1 (c.in_ok-world.ensures.asks book reads) refl
+    (beside_text c.args.asked w.0.tag w.0.outcome _ _ w.2)
+
+pub returns-in-Err-clause-truth : goal.returns-in-Err-clause-truth
+returns-in-Err-clause-truth g c book reads tells =
+    let client = c.fetch_used-fetched.new.client in
+    let w = c.in-Err.ensures.written tells in
+    true_of_book _ book c.args.asked client w.0 _ _ reads.named (c.in_ok-world.ensures.reads book reads).agrees w.1 (c.in_ok-world.ensures.asks book reads) tt w.2

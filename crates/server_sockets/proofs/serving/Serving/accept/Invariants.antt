@@ -1,23 +1,23 @@
 use Rattle.std.specs.Prelude.{◌≡◌, ◌+◌, ◌-◌, ◌<◌, ◌≤◌, false, length}
-use Rattle.server_sockets.specs.Places.{HasNoPlace, StayOrStart, KeepsAll, KeepsBusy, accepted_of, ended_of, limits_of, next_of, places_of, room_of}
+use Rattle.server_sockets.specs.Slots.{HasNoSlot, StayOrStart, KeepsAll, KeepsBusy, accepted_of, ended_of, limits_of, next_of, slots_of, slot_count}
 use Rattle.server_sockets.proofs.serving.Serving.accept.Given as goal
 
 abbrev pub invariant-loop : goal.invariant-loop
 invariant-loop l = record {
   limits : limits_of l.self ≡ limits_of l.fn.self;
-  room : room_of l.self ≡ room_of l.fn.self;
+  room : slot_count l.self ≡ slot_count l.fn.self;
   before : l.before ≡ accepted_of l.fn.self;
   more : accepted_of l.fn.self ≤ accepted_of l.self;
   ended : ended_of l.fn.self ≤ ended_of l.self;
   busy : KeepsBusy l.now l.fn.self l.self;
   numbers : next_of l.self ≤ next_of l.fn.self + (accepted_of l.self - accepted_of l.fn.self);
   fed : l.fn.self.out_of_descriptors ≡ false → l.self.out_of_descriptors ≡ false;
-  spared : l.fn.self.out_of_descriptors ≡ false → length (places_of l.fn.self) + (accepted_of l.self - accepted_of l.fn.self) < room_of l.fn.self
+  spared : l.fn.self.out_of_descriptors ≡ false → length (slots_of l.fn.self) + (accepted_of l.self - accepted_of l.fn.self) < slot_count l.fn.self
       → KeepsAll l.fn.self l.self;
-  held : length (places_of l.self) ≤ length (places_of l.fn.self) + (accepted_of l.self - accepted_of l.fn.self);
+  held : length (slots_of l.self) ≤ length (slots_of l.fn.self) + (accepted_of l.self - accepted_of l.fn.self);
   newcomers : StayOrStart l.now l.fn.self l.self;
   quiet : l.fn.self.accept_pending ≡ false → l.self ≡ l.fn.self;
   full : (limits_of l.fn.self).connections ≤ accepted_of l.fn.self → l.self ≡ l.fn.self;
-  waits : HasNoPlace l.now l.fn.self → l.self ≡ l.fn.self;
+  waits : HasNoSlot l.now l.fn.self → l.self ≡ l.fn.self;
   few : accepted_of l.fn.self ≤ (limits_of l.fn.self).connections → accepted_of l.self ≤ (limits_of l.fn.self).connections;
 }

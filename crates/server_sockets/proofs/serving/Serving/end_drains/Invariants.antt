@@ -1,5 +1,5 @@
 use Rattle.std.specs.Prelude.{◌≡◌, ◌+◌, length}
-use Rattle.server_sockets.specs.Places.{NobodyComes, NoneChanges}
+use Rattle.server_sockets.specs.Slots.{NobodyComes, NoneChanges}
 use Rattle.server_sockets.proofs.serving.Serving.end_drains.Given as goal
 
 abbrev pub invariant-loop : goal.invariant-loop

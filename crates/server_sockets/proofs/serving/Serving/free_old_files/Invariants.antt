@@ -1,5 +1,5 @@
 use Rattle.std.specs.Prelude.{◌≡◌, length}
-use Rattle.server_sockets.specs.Places.{NobodyComes, NoneChanges, limits_of, places_of}
+use Rattle.server_sockets.specs.Slots.{NobodyComes, NoneChanges, limits_of, slots_of}
 use Rattle.server_sockets.proofs.serving.Serving.free_old_files.Given as goal
 
 abbrev pub invariant-loop : goal.invariant-loop
@@ -11,4 +11,4 @@ invariant-loop l = record {
 }
 
 abbrev pub decreases-loop : goal.decreases-loop
-decreases-loop l = length (places_of l.self)
+decreases-loop l = length (slots_of l.self)

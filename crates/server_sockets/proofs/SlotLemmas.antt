@@ -1,0 +1,100 @@
+-- What nobody's coming is, and who keeps a slot.
+use Rattle.std.proofs.Common.{◌≡◌, ◌∙◌, ◌+◌, ◌-◌, ◌<◌, ◌≤◌, ◌⊎◌, ℕ, arith, false, length, Option, None, Some, refl, sym, le_trans, subst, inl, inr}
+use Rattle.cog_server.specs.Additions.{ServiceState}
+use Rattle.server_connections.specs.declared.timed.Timed.{Timed}
+use Rattle.server_sockets.specs.declared.serving.Serving.{Serving}
+use Rattle.server_connections.specs.Table.{timed_at}
+use Rattle.server_connections.specs.Yielding.{MayYield}
+use Rattle.server_sockets.specs.Going.{AllWentOn}
+use Rattle.server_sockets.proofs.GoingLemmas.{all_on, all_still}
+use Rattle.server_sockets.specs.Turns.{HasStartedAt, IsTriedAt}
+use Rattle.std.specs.Prelude.{IfSome}
+use Rattle.server_sockets.specs.declared.serving.Limits.{Limits}
+use Rattle.server_sockets.specs.Slots.{AllStart, KeepsAll, KeepsBusy, NobodyComes, NoneChanges, StayOrStart, accepted_of, limits_of, slots_of, slot_count}
+
+-- where nobody comes at first, nor then, nobody does
+pub nobody_yet : (a b c : Serving) → NobodyComes a b → NobodyComes b c → NobodyComes a c
+nobody_yet a b c first then = record {
+  slots = λ k none. then.slots k (first.slots k none);
+  accepted = then.accepted ∙ first.accepted;
+  room = then.room ∙ first.room;
+  limits = then.limits ∙ first.limits;
+  ended = le_trans first.ended then.ended;
+}
+
+-- who keeps a slot at first, and then, does
+pub busy_on : (now : ℕ) (a b c : Serving) → limits_of b ≡ limits_of a → KeepsBusy now a b → KeepsBusy now b c → KeepsBusy now a c
+busy_on now a b c limits first then k p there =
+    elim (first k p there) [
+      | inl may ↦ inl may
+      | inr stays ↦ elim (then k p stays) [
+        | inl may ↦ inl (subst (λ (l : Limits). MayYield now l.patience p) limits may)
+        | inr still ↦ inr still
+      ]
+    ]
+
+-- who is there is as it was, behind both
+pub same_on : (a b c : Serving) → NoneChanges a b → NoneChanges b c → NoneChanges a c
+same_on a b c first then k p there = first k p (then k p there)
+
+-- all went on, and then some lose their slots
+pub went_still : (service : ServiceState) (now : ℕ) (a b c : Serving) → AllWentOn service now (slots_of a) (slots_of b) → NoneChanges b c
+    → AllWentOn service now (slots_of a) (slots_of c)
+went_still service now a b c went same =
+    all_on service now (slots_of a) (slots_of b) (slots_of c) went (all_still service now (slots_of b) (slots_of c) same)
+
+-- who is there was there, or starts, where some lose their slots
+pub start_fewer : (now : ℕ) (a b : Serving) → NoneChanges a b → StayOrStart now a b
+start_fewer now a b fewer k p there = inl (fewer k p there)
+
+-- and where one more comes behind that
+start_at : (now : ℕ) (a b c : Serving) → NoneChanges a b → KeepsAll b c → AllStart now b c → (k : ℕ) (p : Timed)
+    → timed_at k (slots_of c) ≡ Some p → (before : Option Timed) → timed_at k (slots_of b) ≡ before
+    → (timed_at k (slots_of a) ≡ Some p) ⊎ HasStartedAt k now (slots_of c)
+start_at now a b c fewer keeps then k p there None gone = inr (then k p gone there)
+start_at now a b c fewer keeps then k p there (Some q) has = inl (fewer k p (has ∙ sym (keeps k q has) ∙ there))
+
+pub start_more : (now : ℕ) (a b c : Serving) → NoneChanges a b → KeepsAll b c → AllStart now b c → StayOrStart now a c
+start_more now a b c fewer keeps then k p there = start_at now a b c fewer keeps then k p there (timed_at k (slots_of b)) refl
+
+-- at first, and then
+pub start_on : (now : ℕ) (a b c : Serving) → StayOrStart now a b → StayOrStart now b c → StayOrStart now a c
+start_on now a b c first then k p there =
+    elim (then k p there) [
+      | inr starts ↦ inr starts
+      | inl stays ↦ elim (first k p stays) [
+        | inl was ↦ inl was
+        | inr started ↦ inr (there ∙ sym stays ∙ started)
+      ]
+    ]
+
+-- who keeps its slot as long as there is room for each newcomer, and more
+pub spared_on : (a b c : Serving) → slot_count b ≡ slot_count a → accepted_of a ≤ accepted_of b → accepted_of b ≤ accepted_of c
+    → length (slots_of b) ≤ length (slots_of a) + (accepted_of b - accepted_of a)
+    → (a.out_of_descriptors ≡ false → b.out_of_descriptors ≡ false)
+    → (a.out_of_descriptors ≡ false → length (slots_of a) + (accepted_of b - accepted_of a) < slot_count a → KeepsAll a b)
+    → (b.out_of_descriptors ≡ false → length (slots_of b) < slot_count b → KeepsAll b c)
+    → a.out_of_descriptors ≡ false → length (slots_of a) + (accepted_of c - accepted_of a) < slot_count a → KeepsAll a c
+spared_on a b c room more again slots fed first then is-fed free k p there =
+    then (fed is-fed) (omega (arith, room, more, again, slots, free)) k p
+    (first is-fed (omega (arith, more, again, free)) k p there)
+
+tried_as : (now k : ℕ) (a b : Serving) → IsTriedAt now k (slots_of a) → NoneChanges a b → (o : Option Timed) → timed_at k (slots_of b) ≡ o
+    → IsTriedAt now k (slots_of b)
+tried_as now k a b is same None there = subst (λ (o : Option Timed). IfSome o (λ p. p.tried ≡ now)) (sym there) tt
+tried_as now k a b is same (Some p) there =
+    subst (λ (o : Option Timed). IfSome o (λ p. p.tried ≡ now)) (sym there)
+    (subst (λ (o : Option Timed). IfSome o (λ p. p.tried ≡ now)) (same k p there) is)
+
+-- one that was tried, and then some lose their slots
+pub tried_still : (now k : ℕ) (a b : Serving) → IsTriedAt now k (slots_of a) → NoneChanges a b → IsTriedAt now k (slots_of b)
+tried_still now k a b is same = tried_as now k a b is same (timed_at k (slots_of b)) refl
+
+-- what becomes of the connections where others are accepted, where the next one is, and where each has its turn
+pub ruleset accepting = (busy_on, start_on, spared_on)
+
+pub ruleset accepting_one = (busy_on, start_more, start_fewer)
+
+pub ruleset taking_turns = (nobody_yet, all_on, went_still)
+
+pub ruleset trying = (nobody_yet, all_still, went_still, tried_still)

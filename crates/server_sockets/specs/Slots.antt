@@ -1,0 +1,137 @@
+-- What others know of a server's sockets.
+use Rattle.std.specs.Prelude.{◌≡◌, ◌≢◌, ◌<◌, ◌⊎◌, ◌+◌, ◌-◌, ◌*◌, ◌^◌, ◌≤◌, ℕ, [], List, length, Contains, false, true, min, slice_get, Option, None, Some, IfSome, IsSome, IsSomeAnd}
+use Rattle.std.specs.declared.time.Duration.{Duration}
+use Rattle.std.specs.Duration.{as_nanos}
+use Rattle.mio.specs.declared.event.event.Event.{Event}
+use Rattle.mio.specs.Events.{items}
+use Rattle.server_connections.specs.declared.timed.Timed.{Timed}
+use Rattle.server_connections.specs.Table.{Table, timed_at}
+use Rattle.server_connections.specs.Yielding.{MayYield, TriesAt, WakesAt, Yields}
+use Rattle.server_sockets.specs.Turns.{HasStartedAt}
+use Rattle.server_sockets.specs.Waits.{IsQueued, sockets_of}
+use Rattle.server_sockets.specs.declared.events.TheConstants.{LISTENER}
+use Rattle.server_sockets.specs.declared.serving.Limits.{Limits}
+use Rattle.server_sockets.specs.declared.serving.Serving.{Serving}
+
+-- what the system reported in the last wait
+abbrev pub events_of : Serving → List Event
+events_of s = items s.events
+
+-- how many connections were accepted
+abbrev pub accepted_of : Serving → ℕ
+accepted_of s = s.accepted
+
+-- how many have ended
+abbrev pub ended_of : Serving → ℕ
+ended_of s = s.open_connections.ended
+
+-- how many there may be, and how long one keeps its slot
+abbrev pub limits_of : Serving → Limits
+limits_of s = s.limits
+
+-- the connections that have a slot
+abbrev pub slots_of : Serving → Table
+slots_of s = s.open_connections.connections.table.entries
+
+-- how many slots there are
+abbrev pub slot_count : Serving → ℕ
+slot_count s = s.open_connections.connections.table.cap
+
+-- the number of the next one that gets a slot
+abbrev pub next_of : Serving → ℕ
+next_of s = s.open_connections.connections.next
+
+-- the first moment at which a connection that keeps bytes of a replaced file will have made no progress for as long as the patience, as it was
+-- last looked for
+abbrev pub frees_of : Serving → Option ℕ
+frees_of s = s.frees_at
+
+-- one kept such bytes then, or there were other publications since; count is how many there are
+abbrev pub MayKeepOld : ℕ → Serving → Type 0
+MayKeepOld count s = IsSome s.frees_at ⊎ (s.publications ≢ count)
+
+-- nobody's slot is a newcomer's at this moment: each connection is busy, or it is the only one, which never loses its own
+abbrev pub NobodyYields : ℕ → Serving → Type 0
+NobodyYields now s = (slot_count s ≡ 1) ⊎ Yields now (limits_of s).patience (slots_of s) None
+
+-- there is no slot for a newcomer at this moment: none is free, and nobody's is taken
+abbrev pub HasNoSlot : ℕ → Serving → Type 0
+HasNoSlot now s = (slot_count s ≤ length (slots_of s)) × NobodyYields now s
+
+-- no connection may go on, none drains, and no newcomer is known that there was no room for, or that wasn't let in
+abbrev pub Rests : Serving → Type 0
+Rests s = (s.ready.items ≡ []) × (s.drains.items ≡ []) × (s.out_of_descriptors ≡ false) × (s.is_barred ≡ false)
+
+-- by this moment one is looked at that will have made no progress for as long as the patience, the first that will
+abbrev pub WakesBy : Serving → Option ℕ → Type 0
+WakesBy s by = (wake : Option ℕ)
+    × WakesAt (limits_of s).patience (slots_of s) wake × IfSome wake (λ moment. IsSomeAnd by (λ first. first ≤ moment))
+
+-- no longer than until then is waited
+abbrev pub WakesIn : ℕ → Serving → Option Duration → Type 0
+WakesIn now s wait = (wake : Option ℕ)
+    × WakesAt (limits_of s).patience (slots_of s) wake × IfSome wake (λ moment. IsSomeAnd wait (λ d. as_nanos d ≤ (moment - now) * 1000000))
+
+-- by this moment, where a newcomer waits, a socket is tried for which bytes wait: half of the patience after its last try, at the latest
+abbrev pub TriesBy : Serving → Option ℕ → Type 0
+TriesBy s by = (try : Option ℕ)
+    × TriesAt (limits_of s).patience (slots_of s) try × IfSome try (λ moment. IsSomeAnd by (λ first. first ≤ moment))
+
+-- no longer than until then is waited
+abbrev pub TriesIn : ℕ → Serving → Option Duration → Type 0
+TriesIn now s wait = (try : Option ℕ)
+    × TriesAt (limits_of s).patience (slots_of s) try × IfSome try (λ moment. IsSomeAnd wait (λ d. as_nanos d ≤ (moment - now) * 1000000))
+
+-- At this moment a newcomer that waits is looked at again: of several slots, where the first connection will have made no progress for
+-- as long as the patience, or the first socket is to be tried, or a second from now where there was no room for it, and only then where
+-- it wasn't let in.
+abbrev pub IsLookedAt : ℕ → Serving → ℕ → Type 0
+IsLookedAt now s moment =
+    (s.accept_pending ≡ true) × (accepted_of s < (limits_of s).connections)
+    × (((s.is_barred ≡ false) × (slot_count s ≢ 1) × (WakesAt (limits_of s).patience (slots_of s) (Some moment)
+    ⊎ TriesAt (limits_of s).patience (slots_of s) (Some moment)))
+    ⊎ (((s.out_of_descriptors ≡ true) ⊎ (s.is_barred ≡ true)) × (moment ≡ min (now + 1000) (2 ^ 64 - 1))))
+
+-- it is waited until the first drain ends, a connection that keeps bytes of a replaced file will have made no progress for as long as the
+-- patience, or a newcomer that waits is looked at again
+abbrev pub IsWaitedFor : ℕ → Serving → Duration → Type 0
+IsWaitedFor now s wait =
+    (moment : ℕ) × (IsSomeAnd (slice_get s.drains.items 0) (λ drain. drain.ends ≡ moment) ⊎ ((frees_of s ≡ Some moment) ⊎ IsLookedAt now s moment))
+    × (as_nanos wait ≡ (moment - now) * 1000000)
+
+-- a connection that had a slot has it as it was, unless a newcomer may take it at this moment
+abbrev pub KeepsBusy : ℕ → Serving → Serving → Type 0
+KeepsBusy now old new = (k : ℕ) (p : Timed) → timed_at k (slots_of old) ≡ Some p →
+    MayYield now (limits_of old).patience p ⊎ (timed_at k (slots_of new) ≡ Some p)
+
+-- each connection has the slot that it had, as it was
+abbrev pub KeepsAll : Serving → Serving → Type 0
+KeepsAll old new = (k : ℕ) (p : Timed) → timed_at k (slots_of old) ≡ Some p → timed_at k (slots_of new) ≡ Some p
+
+-- who has a slot had it, and it is as it was
+abbrev pub NoneChanges : Serving → Serving → Type 0
+NoneChanges old new = (k : ℕ) (p : Timed) → timed_at k (slots_of new) ≡ Some p → timed_at k (slots_of old) ≡ Some p
+
+-- who has a slot and had none starts at this moment
+abbrev pub AllStart : ℕ → Serving → Serving → Type 0
+AllStart now old new =
+    (k : ℕ) (p : Timed) → timed_at k (slots_of old) ≡ None → timed_at k (slots_of new) ≡ Some p → HasStartedAt k now (slots_of new)
+
+-- who has a slot had it, and is as it was, or starts at this moment
+abbrev pub StayOrStart : ℕ → Serving → Serving → Type 0
+StayOrStart now old new =
+    (k : ℕ) (p : Timed) → timed_at k (slots_of new) ≡ Some p → (timed_at k (slots_of old) ≡ Some p) ⊎ HasStartedAt k now (slots_of new)
+
+-- What the system reported is noted: each connection is queued for its turn, or gone, and of the listener it is remembered.
+pub record IsNoted (old new : Serving) : Type 0 where
+  pub heard : Contains (sockets_of (events_of new)) LISTENER.0 → new.accept_pending ≡ true
+  pub queued : (k : ℕ) → Contains (sockets_of (events_of new)) k → k ≢ LISTENER.0
+      → IsQueued k new.ready.items old.open_connections new.open_connections
+
+-- nobody is accepted, nobody gets a slot, there are as many slots, and none that ended is forgotten
+pub record NobodyComes (old new : Serving) : Type 0 where
+  pub slots : (k : ℕ) → timed_at k (slots_of old) ≡ None → timed_at k (slots_of new) ≡ None
+  pub accepted : accepted_of new ≡ accepted_of old
+  pub room : slot_count new ≡ slot_count old
+  pub limits : limits_of new ≡ limits_of old
+  pub ended : ended_of old ≤ ended_of new
