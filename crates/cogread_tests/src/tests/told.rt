@@ -255,7 +255,7 @@ const NOWHERE: [(&[&str], &str, u8); 3] = [
         4,
     ),
     (
-        &["cogread", "info", "http://[::1]:1/a", "--verbose"],
+        &["cogread", "info", "[::1]:1", "a", "--verbose"],
         "cogread: the server is 1 to 64 letters, digits, '.', '-' and ':', and no address in brackets\ncogread: refused 1\n",
         2,
     ),
