@@ -1,5 +1,5 @@
 //! The cache and its calls.
-ghost use Rattle.std.specs.Prelude.{◌≡◌, ◌+◌, ◌-◌, ◌*◌, ◌/◌, ◌%◌, ◌<◌, ◌≤◌, ◌^◌, ℕ, List, [], IfOk, IsOk, OnOk, OnErr, IsErrOf, MatchResult, length, take};
+ghost use Rattle.std.specs.Prelude.{◌≡◌, ◌+◌, ◌-◌, ◌*◌, ◌/◌, ◌%◌, ◌<◌, ◌≤◌, ◌^◌, ℕ, List, [], IfOk, IsOk, IsTrue, OnOk, OnErr, IsErrOf, MatchResult, false, length, take};
 ghost use Rattle.std.specs.List.{range_with_len, slice_range};
 ghost use Rattle.extents.specs.declared.limits.TheConstants.{BLOCK_SIZE};
 ghost use Rattle.extents.specs.Block.{first_block, blocks};
@@ -165,6 +165,26 @@ impl Cache {
         self.touch(file_length, first, out.len())?;
         self.copy_at(first, out);
         Ok(())
+    }
+
+    /// Copies the bytes from `first` on into `out`, where all blocks that they touch are there. Returns whether they
+    /// are. Where they aren't, it leaves `out` as it was. The order of the blocks stays.
+    pub fn copy_present(&self, first: u64, out: &mut [u8]) -> bool
+        requires some { 0 < length out.old }
+        requires within { first + length out.old < 2 ^ 64 }
+        ensures there { IsTrue result → AreThere (numbers self.now.entries) (first_block first) (blocks first (length out.old)) }
+        ensures missing { result ≡ false → AreThere (numbers self.now.entries) (first_block first) (blocks first (length out.old)) → ⊥ }
+        ensures slice { IsTrue result → (f : List ℕ) → first + length out.old ≤ length f → Holds f self.now →
+            out.new ≡ slice_range f first (first + length out.old) }
+        ensures missed { result ≡ false → out.new ≡ out.old }
+    {
+        let from = first / BLOCK_SIZE;
+        let to = (first + out.len() as u64 - 1) / BLOCK_SIZE + 1;
+        if self.present(from, to) < to - from {
+            return false;
+        }
+        self.copy_at(first, out);
+        true
     }
 
     /// Returns the bytes from `first` on that stand in one block, at most `len`. Returns none where that block isn't

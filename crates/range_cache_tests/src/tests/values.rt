@@ -189,3 +189,43 @@ fn wants_no_block_at_the_end(rt: HostRuntime) -> Result<(), Fail> {
     }
     Ok(())
 }
+
+/// First byte and length of a range, and whether blocks 0 and 2 have it.
+const COPIES: [(u64, usize, bool); 10] = [
+    (0, 1, true),
+    (0, 16384, true),
+    (0, 16385, false),
+    (16383, 1, true),
+    (16383, 2, false),
+    (16384, 1, false),
+    (32767, 2, false),
+    (32768, 16384, true),
+    (49151, 2, false),
+    (67705, 1, false),
+];
+
+#[test]
+fn copies_what_is_present(rt: HostRuntime) -> Result<(), Fail> {
+    let alloc = rt.alloc();
+    let mut cache = Cache::new(alloc, 66).ok().ok_or("no cache")?;
+    for (first, last) in [(0, 16383), (32768, 49151)] {
+        let bytes = piece(alloc, first, 16384)?;
+        let count = put(&mut cache, COMPLETE, first, &bytes, Span { first, last });
+        expect_eq!(rt; count.ok(), Some(1));
+    }
+    for (first, len, copied) in COPIES {
+        assert!(rt; 0 < len && len <= 16385 && first < COMPLETE);
+        let mut out = vec![in alloc; 7u8; len]?;
+        let untouched = vec![in alloc; 7u8; len]?;
+        let bytes = piece(alloc, first, len)?;
+        assert!(rt; out.len() == len);
+        expect_eq!(rt; cache.copy_present(first, &mut out), copied, "{len} bytes from {first}");
+        let want = if copied {
+            bytes.as_slice()
+        } else {
+            untouched.as_slice()
+        };
+        assert_eq!(rt; out.as_slice(), want, "{len} bytes from {first}");
+    }
+    Ok(())
+}
