@@ -1,5 +1,5 @@
 //! The cache and its calls.
-ghost use Rattle.std.specs.Prelude.{◌≡◌, ◌+◌, ◌-◌, ◌*◌, ◌/◌, ◌%◌, ◌<◌, ◌≤◌, ◌^◌, ℕ, List, [], IfOk, IsOk, IsTrue, OnOk, OnErr, IsErrOf, MatchResult, false, length, take};
+ghost use Rattle.std.specs.Prelude.{◌≡◌, ◌==◌, ◌+◌, ◌-◌, ◌*◌, ◌/◌, ◌%◌, ◌<◌, ◌≤◌, ◌^◌, ℕ, List, [], IfOk, IsOk, IsTrue, OnOk, OnErr, IsErrOf, MatchResult, false, length, take};
 ghost use Rattle.std.specs.List.{range_with_len, slice_range};
 ghost use Rattle.extents.specs.declared.limits.TheConstants.{BLOCK_SIZE};
 ghost use Rattle.extents.specs.Block.{first_block, blocks};
@@ -172,8 +172,7 @@ impl Cache {
     pub fn copy_present(&self, first: u64, out: &mut [u8]) -> bool
         requires some { 0 < length out.old }
         requires within { first + length out.old < 2 ^ 64 }
-        ensures there { IsTrue result → AreThere (numbers self.now.entries) (first_block first) (blocks first (length out.old)) }
-        ensures missing { result ≡ false → AreThere (numbers self.now.entries) (first_block first) (blocks first (length out.old)) → ⊥ }
+        ensures exact { result ≡ (missing (numbers self.now.entries) (first_block first) (blocks first (length out.old)) == 0) }
         ensures slice { IsTrue result → (f : List ℕ) → first + length out.old ≤ length f → Holds f self.now →
             out.new ≡ slice_range f first (first + length out.old) }
         ensures missed { result ≡ false → out.new ≡ out.old }
