@@ -5,6 +5,7 @@ pub mod Client
 pub mod Body
 pub mod Calls
 pub mod Keeps
+pub mod Known
 pub mod Steps
 pub mod Check
 pub mod Transport

@@ -4,6 +4,7 @@ ghost use Rattle.cog_client.specs.Take.{first_span};
 
 mod early;
 mod feeds;
+mod known;
 mod starting;
 
 use crate::delivered::{Current, Unknown};

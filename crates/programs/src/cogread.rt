@@ -28,6 +28,7 @@ use std::io;
 use std::net::{Net, TcpStream};
 use std::rt::{Clock, Files};
 use text_description::Form;
+use text_report::ExplainedFault;
 use tiff_dir::Pick;
 
 /// The number of blocks that a request may ask for early where a URL or a path names the file.
@@ -236,14 +237,14 @@ fn run_read<R>(
     line: &ReadLine<'_>,
     headers: &[&str],
     numbers: Numbers,
-    mut client: Client,
+    client: &mut Client,
     is_url: bool,
 ) -> Result<(), Exit>
 where
     R: Files + Clock + Print + Eprint + AllocGlobal + Net<Stream = TcpStream>,
 {
-    add_headers(rt, &mut client, headers)?;
-    let text = text_of_line(rt, line, numbers, &mut client, is_url)?;
+    add_headers(rt, client, headers)?;
+    let text = text_of_line(rt, line, numbers, client, is_url)?;
     write_text(rt, line, &text)
 }
 
@@ -255,11 +256,26 @@ where
     let numbers = numbers_of(rt, line)?;
     let mut client = client_of(rt, line, numbers.blocks)?;
     add_headers(rt, &mut client, headers)?;
+    let ended = read_local(rt, line, numbers, &mut client, path);
+    explained(ended, &client)
+}
+
+/// Reads what a line asks for from the file of the disk at `path`, with the client of that file, and writes it.
+fn read_local<R>(
+    rt: &R,
+    line: &ReadLine<'_>,
+    numbers: Numbers,
+    client: &mut Client,
+    path: &str,
+) -> Result<(), Exit>
+where
+    R: Files + Clock + Print + Eprint + AllocGlobal + Net<Stream = TcpStream>,
+{
     client.look_ahead(numbers.ahead);
     let server = server_of_file(rt, path)?;
     let source = source_of(rt.alloc(), &server);
     let net = NotedNet::new(rt);
-    let text = text_of_source(rt, &net, line, numbers, &mut client, source, true)?;
+    let text = text_of_source(rt, &net, line, numbers, client, source, true)?;
     write_text(rt, line, &text)
 }
 
@@ -343,14 +359,15 @@ where
     let read = read_line_with_headers(rt.alloc(), &named)?;
     let line = line_of_url(read.line);
     let numbers = numbers_of(rt, &line)?;
-    let client = client_of_url(rt, word, asked.url, numbers.blocks)?;
-    explained(run_read(rt, &line, &read.headers, numbers, client, true))
+    let mut client = client_of_url(rt, word, asked.url, numbers.blocks)?;
+    let ended = run_read(rt, &line, &read.headers, numbers, &mut client, true);
+    explained(ended, &client)
 }
 
-/// Has the fault of a file explained, as where a URL or a path of the disk names it.
-fn explained(ended: Result<(), Exit>) -> Result<(), Exit> {
+/// Has the fault of a file explained, as where a URL or a path of the disk names it: by a value that the client's bytes of the file have.
+fn explained(ended: Result<(), Exit>, client: &Client) -> Result<(), Exit> {
     match ended {
-        Err(Exit::OfFile(fault)) => Err(Exit::Explained(fault)),
+        Err(Exit::OfFile(fault)) => Err(Exit::Explained(ExplainedFault::of(fault, client))),
         ended => ended,
     }
 }
@@ -370,7 +387,7 @@ where
         let named = words_instead(rt.alloc(), words, index, &instead)?;
         let read = read_line_with_headers(rt.alloc(), &named)?;
         let line = line_of_path(read.line);
-        return explained(run_local(rt, &line, &read.headers, words[index]));
+        return run_local(rt, &line, &read.headers, words[index]);
     }
     run_named(rt, words)
 }
@@ -382,8 +399,8 @@ where
 {
     let read = read_line_with_headers(rt.alloc(), words)?;
     let numbers = numbers_of(rt, &read.line)?;
-    let client = client_of(rt, &read.line, numbers.blocks)?;
-    run_read(rt, &read.line, &read.headers, numbers, client, false)
+    let mut client = client_of(rt, &read.line, numbers.blocks)?;
+    run_read(rt, &read.line, &read.headers, numbers, &mut client, false)
 }
 
 /// Runs the program on its words, of which the first is its own name. Fails with the reason for which the program ends early.

@@ -59,7 +59,7 @@ pub enum Exit {
     /// The report is this fault of the file.
     OfFile(FileFault),
     /// The report is this fault of a file that a URL or a path names. The program's line explains it.
-    Explained(FileFault),
+    Explained(ExplainedFault),
     /// No report stands after all requests.
     NoReport,
     /// The first answer to a URL isn't used for this reason, and no later one is expected to be.
@@ -212,7 +212,7 @@ impl fmt::Display for ExitLine<'_> {
                 Some(tag) => write!(f, "{program}: fault {} {tag}", fault.number()),
                 None => write!(f, "{program}: fault {}", fault.number()),
             },
-            Exit::Explained(fault) => write!(f, "{program}: {}", ExplainedFault(*fault)),
+            Exit::Explained(fault) => write!(f, "{program}: {fault}"),
             Exit::NoReport => write!(f, "{program}: no report"),
             Exit::NotUsed(why) => write!(f, "{program}: no report: {}", WhySentence(*why)),
             Exit::CantListen => write!(f, "{program}: can't listen"),

@@ -1,5 +1,5 @@
 -- What a description says of a file.
-use Rattle.std.specs.Prelude.{◌≡◌, ℕ, Bool, true, false, List, [], slice_get, Option, Some, IfSome, IsSomeAnd, MatchOption, option_map, ⊤}
+use Rattle.std.specs.Prelude.{◌≡◌, ℕ, Bool, true, false, List, [], length, slice_get, Option, Some, IfSome, IsSomeAnd, MatchOption, option_map, ⊤}
 use Rattle.std.specs.Option.{unwrap_or}
 use Rattle.std.specs.Cow.{cow_str_bytes}
 use Rattle.std.specs.Str.Lossy.{utf8_lossy}
@@ -15,6 +15,7 @@ use Rattle.text_description.specs.declared.facts.LevelFacts.{LevelFacts}
 use Rattle.text_description.specs.declared.facts.RasterType.{RasterType}
 use Rattle.text_description.specs.declared.facts.RasterType.TheVariants.{Point}
 use Rattle.text_description.specs.Facts.{raster_type_by, AreFactsOf, IsSystemBy}
+use Rattle.text_description.specs.NoData.{mask_directories, IsNoDataText}
 use Rattle.text_description.specs.Placement.{corners_by, geo_transform_of, placement_of}
 
 -- the length of the file that the client reads
@@ -54,6 +55,14 @@ pub record HasLevels (c : ClientState) (levels : Option (List Level)) : Type 0 w
 -- these are the facts of the levels that the client has
 abbrev pub AreLevelsBy : ClientState → List LevelFacts → Type 0
 AreLevelsBy c facts = (levels : Option (List Level)) × HasLevels c levels × AreFactsOf (unwrap_or levels []) facts
+
+-- the text is that of the file's field GDAL_NODATA, with U+FFFD for what isn't UTF-8
+abbrev pub HasNoData : ClientState → List ℕ → Type 0
+HasNoData c text = (field : List ℕ) × (text ≡ utf8_lossy field) × ((f : List ℕ) → Knows f c → IsNoDataText f field)
+
+-- the file has so many transparency masks
+abbrev pub HasMasks : ClientState → ℕ → Type 0
+HasMasks c n = (f : List ℕ) → Knows f c → n ≡ length (mask_directories f)
 
 -- no report of Info
 abbrev pub IsNoInfo : Outcome → Type 0

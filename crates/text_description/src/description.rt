@@ -2,15 +2,16 @@
 ghost use Rattle.std.specs.Prelude.{◌≡◌, IfOk, IfSome, None, Ok, string_bytes};
 ghost use Rattle.text_description.specs.Text.{IsJson, IsLine};
 ghost use Rattle.std.specs.Option.{option_map};
-ghost use Rattle.text_description.specs.Description.{Describes, AreLevelsBy, HasNoInfo, is_point};
+ghost use Rattle.text_description.specs.Description.{Describes, AreLevelsBy, HasMasks, HasNoData, HasNoInfo, is_point};
 ghost use Rattle.text_description.specs.Facts.{AreFactsOf};
 ghost use Rattle.text_description.specs.Placement.{corners_by, geo_transform_of};
 
 use crate::facts::{CoordinateSystem, LevelFacts, RasterType, readable};
+use crate::no_data::{count_masks, no_data_text};
 use crate::placement::{Corners, Placement};
 use cog_client::{Client, Memory, Outcome};
 use serde::Serialize;
-use std::alloc::Global;
+use std::alloc::{AllocError, Global};
 use std::borrow::CowStr;
 use tiff_dir::Level;
 
@@ -36,6 +37,12 @@ pub struct Description<'a> {
     pub size: Option<(u32, u32)>,
     /// The levels, the largest first.
     pub levels: Vec<LevelFacts>,
+    /// The value of the pixels that mean no data, as the file has it, where it has the field GDAL_NODATA.
+    #[serde(skip_serializing_if = "Option::is_none", rename = "noDataValue")]
+    pub no_data: Option<String>,
+    /// How many transparency masks the file has, where its directories are known. They aren't read.
+    #[serde(skip_serializing_if = "Option::is_none")]
+    pub masks: Option<u16>,
     #[serde(skip_serializing_if = "Option::is_none")]
     pub coordinate_system: Option<CoordinateSystem<'a>>,
     #[serde(skip_serializing_if = "Option::is_none")]
@@ -54,6 +61,8 @@ impl<'a> Description<'a> {
     pub fn of(alloc: Global, client: &'a Client) -> Result<Option<Description<'a>>, Memory>
         ensures described { IfOk result (λ made. IfSome made (Describes client.now)) }
         ensures levels { IfOk result (λ made. IfSome made (λ d. AreLevelsBy client.now d.levels.items)) }
+        ensures no_data { IfOk result (λ made. IfSome made (λ d. IfSome d.no_data (λ text. HasNoData client.now (string_bytes text)))) }
+        ensures masks { IfOk result (λ made. IfSome made (λ d. IfSome d.masks (HasMasks client.now))) }
         ensures none { result ≡ Ok None → HasNoInfo client.now }
     {
         let (Some(report), Some(length)) = (client.report(), client.complete()) else {
@@ -70,6 +79,8 @@ impl<'a> Description<'a> {
             length,
             size,
             levels: levels_of(alloc, client)?,
+            no_data: no_data_of(alloc, client)?,
+            masks: count_masks(client),
             coordinate_system: CoordinateSystem::of(alloc, info)?,
             raster_type,
             placement,
@@ -91,6 +102,16 @@ impl<'a> Description<'a> {
                 Ok(text)
             }
         }
+    }
+}
+
+/// Returns the text of the field GDAL_NODATA, with U+FFFD for what isn't UTF-8. Fails where no memory is left.
+fn no_data_of(alloc: Global, client: &Client) -> Result<Option<String>, AllocError>
+    ensures { IfOk result (λ o. IfSome o (λ text. HasNoData client.now (string_bytes text))) }
+{
+    match no_data_text(alloc, client)? {
+        Some(bytes) => Ok(Some(String::from_utf8_lossy(alloc, &bytes)?)),
+        None => Ok(None),
     }
 }
 

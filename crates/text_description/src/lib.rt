@@ -5,6 +5,7 @@
 mod covering;
 mod description;
 mod facts;
+mod no_data;
 mod placement;
 mod words;
 mod world;
@@ -12,5 +13,6 @@ mod world;
 pub use covering::{Bounds, NoPixels, law_snap_is, level_sides, window_covering};
 pub use description::{Description, Form};
 pub use facts::{CoordinateSystem, LevelFacts, RasterType};
+pub use no_data::{count_masks, no_data_text};
 pub use placement::{Corners, Placement, law_halves_are};
 pub use world::{WorldFile, law_half_is, world_file};

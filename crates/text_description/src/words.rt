@@ -134,6 +134,16 @@ impl fmt::Display for Description<'_> {
         for (number, level) in self.levels.iter().enumerate() {
             writeln!(f, "level {number}: {level}")?;
         }
+        if let Some(no_data) = &self.no_data {
+            let value = EscapedText(no_data.as_str());
+            writeln!(f, "pixels with the value {value} mean no data, by the file")?;
+        }
+        if let Some(masks) = self.masks
+            && masks > 0
+        {
+            let masks = CountedNoun(u32::from(masks), "mask");
+            writeln!(f, "{masks}, not read")?;
+        }
         if let Some(system) = &self.coordinate_system {
             writeln!(f, "{system}")?;
         }

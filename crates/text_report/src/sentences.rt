@@ -1,4 +1,9 @@
 //! Sentences on what is wrong with a file.
+ghost use Rattle.std.specs.Prelude.{◌≡◌, IfSome, List, ℕ};
+ghost use Rattle.text_report.specs.Found.{IsFoundIn};
+
+use crate::found::{found_value, value_name};
+use known_fields::KnownBytes;
 use std::fmt;
 use tiff_dir::{FileFault, tags};
 
@@ -162,17 +167,57 @@ impl fmt::Display for WayOut {
     }
 }
 
-/// Prints a fault as one line: its number, the tag of its field if it is about one, its sentence, and what helps against it.
+/// Holds a fault of a file, and the value that was found where the file has one that isn't read.
 #[derive(Clone, Copy, Debug, PartialEq, Eq)]
-pub struct ExplainedFault(pub FileFault);
+pub struct ExplainedFault {
+    pub fault: FileFault,
+    /// A value of the field that the fault is about, which isn't read.
+    pub found: Option<u64>,
+}
 
+impl ExplainedFault {
+    /// Returns the fault with the value that the known bytes of the file have, where the fault is of a value.
+    pub fn of<B: KnownBytes>(fault: FileFault, bytes: &B) -> ExplainedFault
+        ensures fault { result.fault ≡ fault }
+        ensures found { IfSome result.found (λ v. (f : List ℕ) → B.is_of bytes.now f → IsFoundIn f fault v) }
+    {
+        let found = match fault {
+            FileFault::Unsupported(tag) => found_value(bytes, tag),
+            _ => None,
+        };
+        ExplainedFault { fault, found }
+    }
+}
+
+/// Prints a field with the value that was found, and the values that are read.
+#[derive(Clone, Copy)]
+struct FoundSentence(u16, u64);
+
+impl fmt::Display for FoundSentence {
+    fn fmt<W: fmt::Write>(&self, f: &mut fmt::Formatter<W>) -> fmt::Result {
+        let FoundSentence(tag, value) = *self;
+        write!(f, "{} is {value}", FieldName(tag))?;
+        if let Some(name) = value_name(tag, value) {
+            write!(f, " ({name})")?;
+        }
+        write!(f, ": {}", taken(tag))
+    }
+}
+
+/// Prints the fault as one line: its number, the tag of its field if it is about one, its sentence, and what helps against it.
 impl fmt::Display for ExplainedFault {
     fn fmt<W: fmt::Write>(&self, f: &mut fmt::Formatter<W>) -> fmt::Result {
-        let fault = self.0;
+        let fault = self.fault;
         write!(f, "fault {}", fault.number())?;
         if let Some(tag) = fault.tag() {
             write!(f, " {tag}")?;
         }
-        write!(f, ": {}. {}", FaultSentence(fault), WayOut(fault))
+        match (fault, self.found) {
+            (FileFault::Unsupported(tag), Some(value)) => {
+                write!(f, ": {}", FoundSentence(tag, value))?;
+            }
+            _ => write!(f, ": {}", FaultSentence(fault))?,
+        }
+        write!(f, ". {}", WayOut(fault))
     }
 }
