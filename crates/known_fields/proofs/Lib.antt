@@ -1,0 +1,2 @@
+pub mod ReadsLemmas
+pub mod NumberLemmas
