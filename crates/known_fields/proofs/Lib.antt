@@ -1,2 +1,3 @@
 pub mod ReadsLemmas
 pub mod NumberLemmas
+pub mod EntryLemmas

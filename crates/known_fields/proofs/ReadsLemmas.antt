@@ -5,22 +5,22 @@ use Rattle.std.proofs.lemmas.Bool.{cases_Bool, leb-true, leb-false}
 use Rattle.known_fields.specs.Reads.{AreAllKnown, Reads}
 
 -- the same is said of each file that the bytes are of
-pub instead : {A : Type 0} (is_of : List ℕ → Type 0) (is_known : ℕ → ℕ → Bool) (s t : List ℕ → Option A) (r : Option A)
+pub instead : {A : Type 0} {is_of : List ℕ → Type 0} {is_known : ℕ → ℕ → Bool} (s t : List ℕ → Option A) (r : Option A)
     → ((f : List ℕ) → is_of f → t f ≡ s f) → Reads is_of is_known s r → Reads is_of is_known t r
-instead {A} is_of is_known s t r same reads = record { known = at r reads.known; whole = λ f of all. reads.whole f of all ∙ sym (same f of) } where
+instead {A} {is_of} {is_known} s t r same reads = record { known = at r reads.known; whole = λ f of all. reads.whole f of all ∙ sym (same f of) } where
   at : (x : Option A) → IfSome x (λ v. (f : List ℕ) → is_of f → s f ≡ Some v) → IfSome x (λ v. (f : List ℕ) → is_of f → t f ≡ Some v)
   at None known = tt
   at (Some v) known = λ f of. same f of ∙ known f of
 
 -- nothing was read in the step before
-pub none_then : {A B : Type 0} (is_of : List ℕ → Type 0) (is_known : ℕ → ℕ → Bool) (s : List ℕ → Option A) (t : List ℕ → Option B)
+pub none_then : {A B : Type 0} {is_of : List ℕ → Type 0} {is_known : ℕ → ℕ → Bool} (s : List ℕ → Option A) (t : List ℕ → Option B)
     → ((f : List ℕ) → is_of f → s f ≡ None → t f ≡ None) → Reads is_of is_known s None → Reads is_of is_known t None
-none_then is_of is_known s t ends reads = record { known = tt; whole = λ f of all. sym (ends f of (sym (reads.whole f of all))) }
+none_then s t ends reads = record { known = tt; whole = λ f of all. sym (ends f of (sym (reads.whole f of all))) }
 
 -- a value that is certain
-pub some_read : {A : Type 0} (is_of : List ℕ → Type 0) (is_known : ℕ → ℕ → Bool) (s : List ℕ → Option A) (v : A)
+pub some_read : {A : Type 0} {is_of : List ℕ → Type 0} {is_known : ℕ → ℕ → Bool} (s : List ℕ → Option A) (v : A)
     → ((f : List ℕ) → is_of f → s f ≡ Some v) → Reads is_of is_known s (Some v)
-some_read is_of is_known s v known = record { known = known; whole = λ f of all. sym (known f of) }
+some_read s v known = record { known = known; whole = λ f of all. sym (known f of) }
 
 -- what isn't known of a file that is known is outside it
 pub outside : (is_known : ℕ → ℕ → Bool) (f : List ℕ) (first len : ℕ) → AreAllKnown is_known f → is_known first len ≡ false → 0 < len → length f < first + len

@@ -11,7 +11,8 @@ use tiff_dir::Order;
 /// Returns the offset of directory `index`.
 pub(crate) fn directory_at<B: KnownBytes>(bytes: &B, order: Order, index: u16) -> Option<u32>
     requires { (f : List ℕ) → B.is_of bytes.now f → order_of f ≡ Some order }
-    ensures { Reads (B.is_of bytes.now) (B.is_known bytes.now) (λ f. directory f index) result }
+    ensures directory { Reads (B.is_of bytes.now) (B.is_known bytes.now) (λ f. directory f index) result }
+    ensures fits { IfSome result (λ at. at < 2 ^ 32) }
 {
     let mut at = long(bytes, order, 4)?;
     for i in 0..index {

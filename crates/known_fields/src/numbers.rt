@@ -67,7 +67,8 @@ pub(crate) fn number<B: KnownBytes>(bytes: &B, order: Order, at: u64, size: usiz
 pub(crate) fn short<B: KnownBytes>(bytes: &B, order: Order, at: u64) -> Option<u16>
     requires named { (f : List ℕ) → B.is_of bytes.now f → order_of f ≡ Some order }
     requires near { at < 2 ^ 63 }
-    ensures { Reads (B.is_of bytes.now) (B.is_known bytes.now) (λ f. number f at 2) result }
+    ensures number { Reads (B.is_of bytes.now) (B.is_known bytes.now) (λ f. number f at 2) result }
+    ensures fits { IfSome result (λ v. v < 2 ^ 16) }
 {
     let short = number(bytes, order, at, 2)?;
     Some(short as u16)
@@ -77,7 +78,8 @@ pub(crate) fn short<B: KnownBytes>(bytes: &B, order: Order, at: u64) -> Option<u
 pub(crate) fn long<B: KnownBytes>(bytes: &B, order: Order, at: u64) -> Option<u32>
     requires named { (f : List ℕ) → B.is_of bytes.now f → order_of f ≡ Some order }
     requires near { at < 2 ^ 63 }
-    ensures { Reads (B.is_of bytes.now) (B.is_known bytes.now) (λ f. number f at 4) result }
+    ensures number { Reads (B.is_of bytes.now) (B.is_known bytes.now) (λ f. number f at 4) result }
+    ensures fits { IfSome result (λ v. v < 2 ^ 32) }
 {
     let long = number(bytes, order, at, 4)?;
     Some(long as u32)
