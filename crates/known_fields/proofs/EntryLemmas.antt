@@ -85,8 +85,8 @@ value_sized f at i k t size told typed is = rw (told, is) (rw typed refl)
 pub sized_uncounted : (f : List ℕ) (at i size : ℕ) → number f (at + 4) 4 ≡ None → sized f at i size ≡ None
 sized_uncounted f at i size none = rw none refl
 
-pub sized_counted : (f : List ℕ) (at i size count : ℕ) → number f (at + 4) 4 ≡ Some count → sized f at i size ≡ counted f at i size count
-sized_counted f at i size count told = rw told refl
+pub sized_counted : (f : List ℕ) (at i size count n : ℕ) → number f (at + 4) 4 ≡ Some count → n ≡ count → sized f at i size ≡ counted f at i size n
+sized_counted f at i size count n told is = rw (told, is) refl
 
 pub counted_unplaced : (f : List ℕ) (at i size count : ℕ) → (if nat_le (count * size) 4 then Some (at + 8) else number f (at + 8) 4) ≡ None → counted f at i size count ≡ None
 counted_unplaced f at i size count none = rw none refl
@@ -94,6 +94,6 @@ counted_unplaced f at i size count none = rw none refl
 pub counted_past : (f : List ℕ) (at i size count first : ℕ) → (if nat_le (count * size) 4 then Some (at + 8) else number f (at + 8) 4) ≡ Some first → count ≤ i → counted f at i size count ≡ None
 counted_past f at i size count first told past = rw (told, le-ltb i count past) refl
 
-pub counted_number : (f : List ℕ) (at i size count first : ℕ) → (if nat_le (count * size) 4 then Some (at + 8) else number f (at + 8) 4) ≡ Some first → i < count
-    → counted f at i size count ≡ number f (first + i * size) size
-counted_number f at i size count first told inside = rw (told, lt-ltb i count inside) refl
+pub counted_number : (f : List ℕ) (at i j size count first : ℕ) → (if nat_le (count * size) 4 then Some (at + 8) else number f (at + 8) 4) ≡ Some first → i < count → j ≡ i
+    → counted f at i size count ≡ number f (first + j * size) size
+counted_number f at i j size count first told inside is = rw (told, lt-ltb i count inside, is) refl

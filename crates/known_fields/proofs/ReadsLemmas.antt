@@ -22,6 +22,11 @@ pub some_read : {A : Type 0} {is_of : List ℕ → Type 0} {is_known : ℕ → �
     → ((f : List ℕ) → is_of f → s f ≡ Some v) → Reads is_of is_known s (Some v)
 some_read s v known = record { known = known; whole = λ f of all. sym (known f of) }
 
+-- a value that no file has
+pub none_read : {A : Type 0} {is_of : List ℕ → Type 0} {is_known : ℕ → ℕ → Bool} (s : List ℕ → Option A)
+    → ((f : List ℕ) → is_of f → s f ≡ None) → Reads is_of is_known s None
+none_read s none = record { known = tt; whole = λ f of all. sym (none f of) }
+
 -- what isn't known of a file that is known is outside it
 pub outside : (is_known : ℕ → ℕ → Bool) (f : List ℕ) (first len : ℕ) → AreAllKnown is_known f → is_known first len ≡ false → 0 < len → length f < first + len
 outside is_known f first len all unknown some = elim (cases_Bool (nat_le (first + len) (length f))) [
