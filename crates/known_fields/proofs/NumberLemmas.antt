@@ -10,7 +10,7 @@ use Rattle.tiff_dir.specs.declared.order.Order.TheVariants.{Little, Big}
 use Rattle.tiff_dir.specs.File.{◌>>=◌, number, order_of}
 use Rattle.tiff_dir.specs.Number.{number_in}
 use Rattle.known_fields.specs.Reads.{AreAllKnown, Reads}
-use Rattle.known_fields.proofs.ReadsLemmas.{outside, some_read}
+use Rattle.known_fields.proofs.ReadsLemmas.{outside, settled}
 
 -- Numbers in an order
 
@@ -96,7 +96,7 @@ module _ (is_of : List ℕ → Type 0) (is_known : ℕ → ℕ → Bool) where
       → ((f : List ℕ) → is_of f → (at + m ≤ length f) × (text ≡ slice_range f at (at + m))) → m ≡ n → length text ≡ m → v ≡ number_in o 0 (length text) text → Reads is_of is_known (λ f. number f at n) (Some v)
   number_read o at n m v text named part is len told =
       let same : v ≡ number_in o 0 n text = told ∙ ap (λ (k : ℕ). number_in o 0 k text) (len ∙ is) in
-      some_read (λ f. number f at n) v (λ f of. rw is at (number_inside f text o at m (named f of) (part f of).0 (part f of).1) ∙ ap Some (sym same))
+      settled (λ f. number f at n) (Some v) (λ f of. rw is at (number_inside f text o at m (named f of) (part f of).0 (part f of).1) ∙ ap Some (sym same))
 
   pub number_unknown : (at n m : ℕ) → is_known at m ≡ false → m ≡ n → 0 < n → Reads is_of is_known (λ f. number f at n) None
   number_unknown at n m unknown is some =

@@ -17,15 +17,13 @@ pub none_then : {A B : Type 0} {is_of : List ℕ → Type 0} {is_known : ℕ →
     → ((f : List ℕ) → is_of f → s f ≡ None → t f ≡ None) → Reads is_of is_known s None → Reads is_of is_known t None
 none_then s t ends reads = record { known = tt; whole = λ f of all. sym (ends f of (sym (reads.whole f of all))) }
 
--- a value that is certain
-pub some_read : {A : Type 0} {is_of : List ℕ → Type 0} {is_known : ℕ → ℕ → Bool} (s : List ℕ → Option A) (v : A)
-    → ((f : List ℕ) → is_of f → s f ≡ Some v) → Reads is_of is_known s (Some v)
-some_read s v known = record { known = known; whole = λ f of all. sym (known f of) }
-
--- a value that no file has
-pub none_read : {A : Type 0} {is_of : List ℕ → Type 0} {is_known : ℕ → ℕ → Bool} (s : List ℕ → Option A)
-    → ((f : List ℕ) → is_of f → s f ≡ None) → Reads is_of is_known s None
-none_read s none = record { known = tt; whole = λ f of all. sym (none f of) }
+-- what each file says that the bytes are of
+pub settled : {A : Type 0} {is_of : List ℕ → Type 0} {is_known : ℕ → ℕ → Bool} (s : List ℕ → Option A) (r : Option A)
+    → ((f : List ℕ) → is_of f → s f ≡ r) → Reads is_of is_known s r
+settled {A} {is_of} {is_known} s r same = record { known = at r same; whole = λ f of all. sym (same f of) } where
+  at : (x : Option A) → ((f : List ℕ) → is_of f → s f ≡ x) → IfSome x (λ v. (f : List ℕ) → is_of f → s f ≡ Some v)
+  at None same = tt
+  at (Some v) same = same
 
 -- what isn't known of a file that is known is outside it
 pub outside : (is_known : ℕ → ℕ → Bool) (f : List ℕ) (first len : ℕ) → AreAllKnown is_known f → is_known first len ≡ false → 0 < len → length f < first + len

@@ -1,6 +1,6 @@
 use Rattle.std.proofs.Common.{◌≡◌, ◌+◌, ◌*◌, ◌<◌, ◌≤◌, ◌^◌, ℕ, List, None, Some, arith, refl, sym, ◌∙◌}
 use Rattle.tiff_dir.specs.File.{directory, number}
-use Rattle.known_fields.proofs.ReadsLemmas.{none_then, some_read}
+use Rattle.known_fields.proofs.ReadsLemmas.{none_then}
 use Rattle.known_fields.proofs.EntryLemmas.{directory_ends, directory_first, directory_next, directory_uncounted}
 use Rattle.known_fields.proofs.entry.directory_at.Goals as goal
 

@@ -2,7 +2,7 @@ use Rattle.std.proofs.Common.{◌≡◌, ◌+◌, ◌*◌, ◌-◌, ◌<◌, ◌
 use Rattle.std.proofs.lemmas.Bool.{eq-eqb, ne_eqb}
 use Rattle.tiff_dir.specs.File.{number}
 use Rattle.known_fields.specs.Entry.{place_from}
-use Rattle.known_fields.proofs.ReadsLemmas.{none_then, some_read}
+use Rattle.known_fields.proofs.ReadsLemmas.{none_then, settled}
 use Rattle.known_fields.proofs.EntryLemmas.{place_end, place_here, place_none, place_on}
 use Rattle.known_fields.proofs.entry.place_of.Goals as goal
 
@@ -14,7 +14,7 @@ returns-in_err-short-clause-place g c =
 
 pub returns-then-branch-tag-clause-place : goal.returns-then-branch-tag-clause-place
 returns-then-branch-tag-clause-place g c =
-    some_read (λ f. place_from f c.args.first c.args.entries c.args.tag) (Some (c.args.first + 12 * c.loop-i.i))
+    settled (λ f. place_from f c.args.first c.args.entries c.args.tag) (Some (Some (c.args.first + 12 * c.loop-i.i)))
     (λ f of. sym (c.loop-i.invariant f of) ∙ place_here f _ (c.args.entries - c.loop-i.i) (c.args.entries - (c.loop-i.i + 1)) c.args.tag c.in_ok-short.field-0 (omega (arith, c.loop-i-test.true, c.from-i-end.ensures))
     (c.in_ok-short.ensures.number.known f of) (eq-eqb _ _ c.if-branch-tag.true))
 
@@ -25,5 +25,5 @@ loop-i-preserved g c = λ f of.
 
 pub returns-clause-place : goal.returns-clause-place
 returns-clause-place g c =
-    some_read (λ f. place_from f c.args.first c.args.entries c.args.tag) None
+    settled (λ f. place_from f c.args.first c.args.entries c.args.tag) (Some None)
     (λ f of. sym (c.loop-i.invariant f of) ∙ place_end f _ _ c.args.tag (omega (arith, c.loop-i-test.false, c.from-i-end.ensures)))

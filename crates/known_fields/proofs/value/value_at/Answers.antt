@@ -2,7 +2,7 @@ use Rattle.std.proofs.Common.{◌≡◌, ◌+◌, ◌*◌, ◌<◌, ◌≤◌, �
 use Rattle.std.specs.Prelude.{nat_le, if◌then◌else◌}
 use Rattle.tiff_dir.specs.File.{number}
 use Rattle.known_fields.specs.Entry.{value_at}
-use Rattle.known_fields.proofs.ReadsLemmas.{instead, none_read, none_then, some_read}
+use Rattle.known_fields.proofs.ReadsLemmas.{instead, none_then, settled}
 use Rattle.known_fields.proofs.EntryLemmas.{counted, counted_number, counted_past, counted_unplaced, sized, sized_counted, sized_uncounted, value_sized, value_unkind, value_untyped}
 use Rattle.known_fields.proofs.value.value_at.Goals as goal
 
@@ -13,7 +13,7 @@ returns-in_err-kind g c =
 
 pub returns-in_err-kind_of : goal.returns-in_err-kind_of
 returns-in_err-kind_of g c =
-    rw c.from_residual-in_err-kind_of.ensures (none_read (λ f. value_at f c.args.place c.args.index)
+    rw c.from_residual-in_err-kind_of.ensures (settled (λ f. value_at f c.args.place c.args.index) None
     (λ f of. value_untyped f c.args.place c.args.index c.in_ok-kind.kind (c.in_ok-kind.ensures.number.known f of) (sym c.in_err-kind_of.ensures)))
 
 pub returns-in_err-count : goal.returns-in_err-count
@@ -31,7 +31,7 @@ returns-in_err-at g c =
 
 pub returns-then-index-count : goal.returns-then-index-count
 returns-then-index-count g c =
-    none_read (λ f. value_at f c.args.place c.args.index)
+    settled (λ f. value_at f c.args.place c.args.index) None
     (λ f of. value_sized f c.args.place c.args.index c.in_ok-kind.kind c.in_ok-kind_of.field-0 c.size-size.result (c.in_ok-kind.ensures.number.known f of) (sym c.in_ok-kind_of.ensures) c.size-size.ensures.size
     ∙ sized_counted f c.args.place c.args.index c.size-size.result c.in_ok-count.count c.from.result (c.in_ok-count.ensures.number.known f of) c.from.ensures
     ∙ counted_past f c.args.place c.args.index c.size-size.result c.from.result c.in_ok-at.at (c.in_ok-at.ensures.at.known f of) (omega (arith, c.if-index-count.true, c.from.ensures)))
