@@ -2,5 +2,9 @@
 #![tactic(auto)]
 
 mod bytes;
+mod entry;
+mod numbers;
+mod value;
 
 pub use bytes::{KnownBytes, WholeFile};
+pub use value::known_value;

@@ -1,0 +1,4 @@
+pub mod ReadsLemmas
+pub mod NumberLemmas
+pub mod EntryLemmas
+pub mod ValueLemmas
