@@ -2,3 +2,4 @@ pub mod ReadsLemmas
 pub mod NumberLemmas
 pub mod EntryLemmas
 pub mod ValueLemmas
+pub mod DirectoryLemmas

@@ -1,2 +1,3 @@
 pub mod Reads
 pub mod Entry
+pub mod Directories

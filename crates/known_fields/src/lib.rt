@@ -2,9 +2,11 @@
 #![tactic(auto)]
 
 mod bytes;
+mod directories;
 mod entry;
 mod numbers;
 mod value;
 
 pub use bytes::{KnownBytes, WholeFile};
+pub use directories::known_directories;
 pub use value::known_value;
