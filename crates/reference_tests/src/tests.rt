@@ -4,5 +4,6 @@ mod bytes;
 mod changes;
 mod faults;
 mod fronts;
+mod known;
 mod queries;
 mod values;
