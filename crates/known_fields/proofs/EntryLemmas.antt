@@ -1,11 +1,9 @@
 -- The steps by which directories, entries and values are found.
-use Rattle.std.proofs.Common.{◌≡◌, ℕ, zero, suc, ◌+◌, ◌-◌, ◌*◌, ◌<◌, ◌≤◌, ◌==◌, Bool, true, false, List, [], ◌∷◌, length, Option, Some, None, refl, sym, ap, ◌∙◌, arith, inl, inr, subst}
-use Rattle.std.specs.Prelude.{nat_le, nat_lt, if◌then◌else◌, unwrap_or}
-use Rattle.std.specs.Option.{option_map_or}
-use Rattle.std.specs.List.{cons_option, find}
+use Rattle.std.proofs.Common.{◌≡◌, ℕ, zero, suc, ◌+◌, ◌*◌, ◌<◌, ◌≤◌, ◌==◌, true, false, List, Option, Some, None, refl, arith, inl, inr}
+use Rattle.std.specs.Prelude.{nat_le, nat_lt, if◌then◌else◌}
 use Rattle.std.proofs.lemmas.Bool.{cases_Bool, leb-true, leb-false, lt-ltb, le-ltb}
 use Rattle.tiff_dir.specs.declared.level.Kind.{Kind}
-use Rattle.tiff_dir.specs.File.{◌>>=◌, Field, default_of, directory, entry_count, field, field_at, field_value, fields, fields_from, has_all_tags, kind_of, number, order_of, size_of, value, values_at}
+use Rattle.tiff_dir.specs.File.{◌>>=◌, directory, field_value, kind_of, number, size_of, values_at}
 use Rattle.known_fields.specs.Entry.{place_from, value_at}
 
 -- Directories

@@ -9,7 +9,7 @@ use Rattle.tiff_dir.specs.declared.order.Order.{Order}
 use Rattle.tiff_dir.specs.declared.order.Order.TheVariants.{Little, Big}
 use Rattle.tiff_dir.specs.File.{◌>>=◌, number, order_of}
 use Rattle.tiff_dir.specs.Number.{number_in}
-use Rattle.known_fields.specs.Reads.{AreAllKnown, Reads}
+use Rattle.known_fields.specs.Reads.{Reads}
 use Rattle.known_fields.proofs.ReadsLemmas.{outside, settled}
 
 -- Numbers in an order

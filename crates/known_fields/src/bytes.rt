@@ -3,14 +3,14 @@ ghost use Rattle.std.specs.Prelude.{◌≡◌, ◌+◌, ◌<◌, ◌≤◌, ◌^
 
 /// Bytes of one file, as far as they are known.
 pub trait KnownBytes {
-    /// States that all that is known is of this file.
+    /// States that all known bytes may be of this file.
     ghost is_of: { Self → List ℕ → Type 0 };
 
-    /// States whether the bytes from a place on are known, so many of them.
+    /// States whether bytes are known: those from the first number on, as many as the second.
     ghost is_known: { Self → ℕ → ℕ → Bool };
 
     /// Copies the bytes of the file from `first` on into `out`, where all of them are known. Returns whether they are.
-    /// Asks for nothing.
+    /// Otherwise `out` may hold anything. Asks no server for bytes.
     fn copy_known(&self, first: u64, out: &mut [u8]) -> bool
         requires some { 0 < length out.old }
         requires near { first + length out.old < 2 ^ 64 }

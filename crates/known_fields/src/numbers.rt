@@ -2,13 +2,13 @@
 ghost use Rattle.std.specs.Prelude.{◌≡◌, ◌<◌, ◌≤◌, ◌^◌, ℕ, IfSome, List, Some, length};
 ghost use Rattle.tiff_dir.specs.File.{number, order_of};
 ghost use Rattle.tiff_dir.specs.Number.{number_in};
-ghost use Rattle.known_fields.specs.Reads.{Reads};
+ghost use Rattle.known_fields.specs.Reads.{HaveOrder, Reads};
 
 use crate::KnownBytes;
 use byteorder::{BigEndian, ByteOrder, LittleEndian};
 use tiff_dir::Order;
 
-/// Returns the byte order that two bytes name.
+/// Returns the byte order that a file's first bytes name, of which these are at least two.
 #[tactic(auto, unfolding(tiff_dir::specs::File::order_of))]
 fn order_named(text: &[u8]) -> Option<Order>
     ensures { result ≡ order_of text.now }
@@ -22,7 +22,7 @@ fn order_named(text: &[u8]) -> Option<Order>
     }
 }
 
-/// Returns the byte order that the first two bytes of the file name.
+/// Returns the file's byte order, which its first two bytes name.
 pub(crate) fn order_in<B: KnownBytes>(bytes: &B) -> Option<Order>
     ensures { Reads (B.is_of bytes.now) (B.is_known bytes.now) order_of result }
 {
@@ -33,7 +33,7 @@ pub(crate) fn order_in<B: KnownBytes>(bytes: &B) -> Option<Order>
     order_named(&text)
 }
 
-/// Returns the number that these bytes have in the order.
+/// Returns the number in all of these bytes.
 fn number_in(order: Order, text: &[u8]) -> u64
     requires some { 1 ≤ length text.now }
     requires few { length text.now ≤ 8 }
@@ -46,9 +46,9 @@ fn number_in(order: Order, text: &[u8]) -> u64
     }
 }
 
-/// Returns the number of the `size` bytes from `at` on, in the file's byte order.
+/// Returns the number in the `size` bytes from `at` on, or `None` where not all of them are known.
 pub(crate) fn number<B: KnownBytes>(bytes: &B, order: Order, at: u64, size: usize) -> Option<u64>
-    requires named { (f : List ℕ) → B.is_of bytes.now f → order_of f ≡ Some order }
+    requires named { HaveOrder (B.is_of bytes.now) order }
     requires near { at < 2 ^ 63 }
     requires some { 1 ≤ size }
     requires few { size ≤ 8 }
@@ -63,9 +63,9 @@ pub(crate) fn number<B: KnownBytes>(bytes: &B, order: Order, at: u64, size: usiz
     Some(number_in(order, part))
 }
 
-/// Returns the number of the two bytes from `at` on.
+/// Returns the number in the two bytes from `at` on, or `None` where not both are known.
 pub(crate) fn short<B: KnownBytes>(bytes: &B, order: Order, at: u64) -> Option<u16>
-    requires named { (f : List ℕ) → B.is_of bytes.now f → order_of f ≡ Some order }
+    requires named { HaveOrder (B.is_of bytes.now) order }
     requires near { at < 2 ^ 63 }
     ensures number { Reads (B.is_of bytes.now) (B.is_known bytes.now) (λ f. number f at 2) result }
     ensures fits { IfSome result (λ v. v < 2 ^ 16) }
@@ -74,9 +74,9 @@ pub(crate) fn short<B: KnownBytes>(bytes: &B, order: Order, at: u64) -> Option<u
     Some(short as u16)
 }
 
-/// Returns the number of the four bytes from `at` on.
+/// Returns the number in the four bytes from `at` on, or `None` where not all of them are known.
 pub(crate) fn long<B: KnownBytes>(bytes: &B, order: Order, at: u64) -> Option<u32>
-    requires named { (f : List ℕ) → B.is_of bytes.now f → order_of f ≡ Some order }
+    requires named { HaveOrder (B.is_of bytes.now) order }
     requires near { at < 2 ^ 63 }
     ensures number { Reads (B.is_of bytes.now) (B.is_known bytes.now) (λ f. number f at 4) result }
     ensures fits { IfSome result (λ v. v < 2 ^ 32) }

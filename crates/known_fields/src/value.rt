@@ -2,7 +2,7 @@
 ghost use Rattle.std.specs.Prelude.{◌≡◌, ◌+◌, ◌<◌, ◌≤◌, ◌^◌, ℕ, if◌then◌else◌, IfSome, List, None, Some, nat_le};
 ghost use Rattle.tiff_dir.specs.File.{default_of, kind_of, number, order_of, value};
 ghost use Rattle.known_fields.specs.Entry.{value_at};
-ghost use Rattle.known_fields.specs.Reads.{AreAllKnown, Reads};
+ghost use Rattle.known_fields.specs.Reads.{AreAllKnown, HaveOrder, Reads};
 
 use crate::KnownBytes;
 use crate::entry::{directory_at, place_of};
@@ -10,7 +10,7 @@ use crate::numbers::{long, number, order_in, short};
 use tiff_dir::tags::{NEW_SUBFILE_TYPE, PLANAR_CONFIGURATION, SAMPLE_FORMAT, SAMPLES_PER_PIXEL};
 use tiff_dir::{Kind, Order};
 
-/// Returns the type that has this number.
+/// Returns the type that has this number, or `None` where none has it.
 fn kind_of(number: u16) -> Option<Kind>
     ensures { result ≡ kind_of number }
 {
@@ -31,7 +31,7 @@ fn kind_of(number: u16) -> Option<Kind>
     }
 }
 
-/// Returns what each value of a field with this tag is where the field is absent, or `None` where it has no default.
+/// Returns the standard's default for a field with this tag that is absent, or `None` where there is no default.
 fn default_of(tag: u16) -> Option<u64>
     ensures { result ≡ default_of tag }
 {
@@ -42,11 +42,13 @@ fn default_of(tag: u16) -> Option<u64>
     }
 }
 
-/// Returns where `len` bytes of values begin, of which the last four bytes of an entry from `at` on tell.
+/// Returns the place of `len` bytes of values. They are in the last four bytes of an entry, from `at` on, if they fit.
+/// Otherwise they are at the offset that stands there. Returns `None` where that isn't known.
 fn values_at<B: KnownBytes>(bytes: &B, order: Order, at: u64, len: u64) -> Option<u64>
-    requires named { (f : List ℕ) → B.is_of bytes.now f → order_of f ≡ Some order }
+    requires named { HaveOrder (B.is_of bytes.now) order }
     requires near { at < 2 ^ 62 + 8 }
-    ensures at { Reads (B.is_of bytes.now) (B.is_known bytes.now) (λ f. if nat_le len 4 then Some at else number f at 4) result }
+    ensures at { Reads (B.is_of bytes.now) (B.is_known bytes.now)
+        (λ f. if nat_le len 4 then Some at else number f at 4) result }
     ensures near { IfSome result (λ first. first < 2 ^ 62 + 8) }
 {
     if len <= 4 {
@@ -56,9 +58,9 @@ fn values_at<B: KnownBytes>(bytes: &B, order: Order, at: u64, len: u64) -> Optio
     Some(u64::from(first))
 }
 
-/// Returns value `index` of the field whose entry stands at `place`.
+/// Returns value `index` of the field whose entry is at `place`, or `None` where a byte that it needs isn't known.
 fn value_at<B: KnownBytes>(bytes: &B, order: Order, place: u64, index: u32) -> Option<u64>
-    requires named { (f : List ℕ) → B.is_of bytes.now f → order_of f ≡ Some order }
+    requires named { HaveOrder (B.is_of bytes.now) order }
     requires near { place < 2 ^ 62 }
     ensures { Reads (B.is_of bytes.now) (B.is_known bytes.now) (λ f. value_at f place index) result }
 {
@@ -72,12 +74,18 @@ fn value_at<B: KnownBytes>(bytes: &B, order: Order, place: u64, index: u32) -> O
     number(bytes, order, at + u64::from(index) * size, size as usize)
 }
 
-/// Returns value `index` of the field `tag` in directory `directory`, both from 0 in the order of the file. Where the
-/// field is absent, that is the standard's default. Returns `None` where a byte that it needs isn't known, or the file
-/// has no such value. Allocates nothing.
+/// Returns value `index` of the field `tag` in directory `directory`. Both numbers count from 0, in the order of the
+/// file. An absent field has the standard's default. Returns `None` where a byte that it needs isn't known, or where
+/// the file has no such value. Allocates nothing.
+///
+/// ```
+/// let width = known_value(&WholeFile(&file), 0, IMAGE_WIDTH, 0);
+/// ```
 pub fn known_value<B: KnownBytes>(bytes: &B, directory: u16, tag: u16, index: u32) -> Option<u64>
-    ensures known { IfSome result (λ v. (f : List ℕ) → B.is_of bytes.now f → value f directory tag index ≡ Some v) }
-    ensures whole { (f : List ℕ) → B.is_of bytes.now f → AreAllKnown (B.is_known bytes.now) f → result ≡ value f directory tag index }
+    ensures known { IfSome result (λ v. (f : List ℕ) → B.is_of bytes.now f
+        → value f directory tag index ≡ Some v) }
+    ensures whole { (f : List ℕ) → B.is_of bytes.now f → AreAllKnown (B.is_known bytes.now) f
+        → result ≡ value f directory tag index }
 {
     let order = order_in(bytes)?;
     let at = directory_at(bytes, order, directory)?;

@@ -1,4 +1,4 @@
-use Rattle.std.proofs.Common.{◌≡◌, ◌+◌, ◌*◌, ◌<◌, ◌≤◌, ◌^◌, ℕ, List, None, Some, arith, refl, sym, ◌∙◌}
+use Rattle.std.proofs.Common.{◌+◌, ◌*◌, arith, refl, ◌∙◌}
 use Rattle.tiff_dir.specs.File.{directory, number}
 use Rattle.known_fields.proofs.ReadsLemmas.{none_then}
 use Rattle.known_fields.proofs.EntryLemmas.{directory_ends, directory_first, directory_next, directory_uncounted}
@@ -29,7 +29,7 @@ pub loop-i-preserved : goal.loop-i-preserved
 loop-i-preserved g c = record {
   fits = c.in_ok-at-2.ensures.fits;
   here = λ f of.
-    directory_next f c.loop-i.i (c.loop-i.i + 1) c.loop-i.at c.in_ok-entries.entries c.from.result c.from-in-loop-i.result c.from-in-loop-i-2.result refl
-    (c.loop-i.invariant.here f of) c.from.ensures c.from-in-loop-i.ensures c.from-in-loop-i-2.ensures (c.in_ok-entries.ensures.number.known f of)
-    ∙ c.in_ok-at-2.ensures.number.known f of;
+      directory_next f c.loop-i.i (c.loop-i.i + 1) c.loop-i.at c.in_ok-entries.entries c.from.result c.from-in-loop-i.result c.from-in-loop-i-2.result refl
+      (c.loop-i.invariant.here f of) c.from.ensures c.from-in-loop-i.ensures c.from-in-loop-i-2.ensures (c.in_ok-entries.ensures.number.known f of)
+      ∙ c.in_ok-at-2.ensures.number.known f of;
 }

@@ -1,7 +1,6 @@
-use Rattle.std.proofs.Common.{◌≡◌, ◌+◌, ◌*◌, ◌<◌, ◌≤◌, ℕ, List, None, Some, ap, arith, refl, sym, ◌∙◌}
-use Rattle.tiff_dir.specs.File.{default_of, directory, number, order_of, value}
+use Rattle.std.proofs.Common.{◌+◌, Some, ap, sym, ◌∙◌}
+use Rattle.tiff_dir.specs.File.{directory, number, order_of, value}
 use Rattle.known_fields.specs.Entry.{place_from, value_at}
-use Rattle.known_fields.specs.Reads.{Reads}
 use Rattle.known_fields.proofs.ReadsLemmas.{instead, none_then, settled}
 use Rattle.known_fields.proofs.ValueLemmas.{by_place, value_by_place, value_gone, value_uncounted, value_unordered}
 use Rattle.known_fields.proofs.value.known_value.Goals as goal

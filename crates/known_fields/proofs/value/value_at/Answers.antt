@@ -1,9 +1,9 @@
-use Rattle.std.proofs.Common.{◌≡◌, ◌+◌, ◌*◌, ◌<◌, ◌≤◌, ℕ, List, None, Some, ap, arith, refl, sym, ◌∙◌}
+use Rattle.std.proofs.Common.{◌+◌, ◌*◌, None, Some, arith, sym, ◌∙◌}
 use Rattle.std.specs.Prelude.{nat_le, if◌then◌else◌}
 use Rattle.tiff_dir.specs.File.{number}
 use Rattle.known_fields.specs.Entry.{value_at}
 use Rattle.known_fields.proofs.ReadsLemmas.{instead, none_then, settled}
-use Rattle.known_fields.proofs.EntryLemmas.{counted, counted_number, counted_past, counted_unplaced, sized, sized_counted, sized_uncounted, value_sized, value_unkind, value_untyped}
+use Rattle.known_fields.proofs.EntryLemmas.{counted_number, counted_past, counted_unplaced, sized_counted, sized_uncounted, value_sized, value_unkind, value_untyped}
 use Rattle.known_fields.proofs.value.value_at.Goals as goal
 
 pub returns-in_err-kind : goal.returns-in_err-kind
