@@ -3,3 +3,4 @@ pub mod NumberLemmas
 pub mod EntryLemmas
 pub mod ValueLemmas
 pub mod DirectoryLemmas
+pub mod SumLemmas

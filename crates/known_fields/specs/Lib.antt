@@ -1,3 +1,4 @@
 pub mod Reads
 pub mod Entry
 pub mod Directories
+pub mod Sum

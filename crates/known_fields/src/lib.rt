@@ -5,8 +5,10 @@ mod bytes;
 mod directories;
 mod entry;
 mod numbers;
+mod sum;
 mod value;
 
 pub use bytes::{KnownBytes, WholeFile};
 pub use directories::known_directories;
+pub use sum::known_sum;
 pub use value::known_value;
