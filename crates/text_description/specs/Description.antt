@@ -10,11 +10,14 @@ use Rattle.cog_client.specs.declared.report.Report.{Report}
 use Rattle.cog_client.specs.Client.{ClientState, AreDirectoriesKnown, Knows, report_of, revision_of}
 use Rattle.tiff_dir.specs.declared.level.Level.{Level}
 use Rattle.tiff_dir.specs.Described.{AreLevels}
+use Rattle.tiff_dir.specs.File.{size_of}
+use Rattle.known_fields.specs.Sum.{sum_at}
+use Rattle.std.specs.List.{AllZip}
 use Rattle.text_description.specs.declared.description.Description.{Description}
 use Rattle.text_description.specs.declared.facts.LevelFacts.{LevelFacts}
 use Rattle.text_description.specs.declared.facts.RasterType.{RasterType}
 use Rattle.text_description.specs.declared.facts.RasterType.TheVariants.{Point}
-use Rattle.text_description.specs.Facts.{raster_type_by, AreFactsOf, IsSystemBy}
+use Rattle.text_description.specs.Facts.{raster_type_by, IsFactsOf, IsSystemBy}
 use Rattle.text_description.specs.NoData.{mask_directories, IsNoDataText}
 use Rattle.text_description.specs.Placement.{corners_by, geo_transform_of, placement_of}
 
@@ -52,9 +55,15 @@ pub record HasLevels (c : ClientState) (levels : Option (List Level)) : Type 0 w
   pub known : MatchOption levels (¬ AreDirectoriesKnown c) (λ _. AreDirectoriesKnown c)
   pub of_file : (f : List ℕ) → Knows f c → IfSome levels (AreLevels f)
 
--- these are the facts of the levels that the client has
+-- The facts are a level's. If the bytes of its tiles are counted, their number is the sum of the level's TileByteCounts in the file.
+pub record IsFactsBy (c : ClientState) (level : Level) (facts : LevelFacts) : Type 0 where
+  pub seen : IsFactsOf level facts
+  pub bytes : IfSome facts.bytes (λ n. (f : List ℕ) → Knows f c
+      → sum_at f level.counts.first (size_of level.counts.kind) level.counts.count ≡ Some n)
+
+-- these are the facts of the levels that the client has, one for each, in their order
 abbrev pub AreLevelsBy : ClientState → List LevelFacts → Type 0
-AreLevelsBy c facts = (levels : Option (List Level)) × HasLevels c levels × AreFactsOf (unwrap_or levels []) facts
+AreLevelsBy c facts = (levels : Option (List Level)) × HasLevels c levels × AllZip (IsFactsBy c) (unwrap_or levels []) facts
 
 -- the text is that of the file's field GDAL_NODATA, with U+FFFD for what isn't UTF-8
 abbrev pub HasNoData : ClientState → List ℕ → Type 0

@@ -43,12 +43,6 @@ pub record IsFactsOf (level : Level) (facts : LevelFacts) : Type 0 where
   pub photometric : facts.photometric.now ≡ photometric_name level.samples
   pub compression : facts.compression.now ≡ compression_name level.compression
 
--- the facts are the levels', one for each, in their order
-abbrev pub AreFactsOf : List Level → List LevelFacts → Type 0
-AreFactsOf [] [] = ⊤
-AreFactsOf (level ∷ levels) (facts ∷ more) = IsFactsOf level facts × AreFactsOf levels more
-AreFactsOf levels facts = ⊥
-
 -- ---- keys
 
 -- the value of the first key of this number

@@ -2,14 +2,15 @@
 ghost use Rattle.std.specs.Prelude.{◌≡◌, IfOk, IfSome, None, Ok, string_bytes};
 ghost use Rattle.text_description.specs.Text.{IsJson, IsLine};
 ghost use Rattle.std.specs.Option.{option_map};
-ghost use Rattle.text_description.specs.Description.{Describes, AreLevelsBy, HasMasks, HasNoData, HasNoInfo, is_point};
-ghost use Rattle.text_description.specs.Facts.{AreFactsOf};
+ghost use Rattle.text_description.specs.Description.{Describes, AreLevelsBy, IsFactsBy, HasMasks, HasNoData, HasNoInfo, is_point};
+ghost use Rattle.std.specs.List.{AllZip};
 ghost use Rattle.text_description.specs.Placement.{corners_by, geo_transform_of};
 
 use crate::facts::{CoordinateSystem, LevelFacts, RasterType, readable};
 use crate::no_data::{count_masks, no_data_text};
 use crate::placement::{Corners, Placement};
 use cog_client::{Client, Memory, Outcome};
+use known_fields::known_sum;
 use serde::Serialize;
 use std::alloc::{AllocError, Global};
 use std::borrow::CowStr;
@@ -143,19 +144,19 @@ fn levels_of(alloc: Global, client: &Client) -> Result<Vec<LevelFacts>, Memory>
     ensures { IfOk result (λ facts. AreLevelsBy client.now facts.items) }
 {
     match client.levels() {
-        Some(levels) => Ok(facts_of(alloc, levels)?),
+        Some(levels) => Ok(facts_of(alloc, client, levels)?),
         None => Ok(Vec::new(alloc)),
     }
 }
 
-/// Returns the facts of each level, in the order of the levels.
+/// Returns the facts of each level, in the order of the levels. The bytes of its tiles are counted where the client knows them.
 #[tactic(auto, using(crate::proofs::LevelLemmas::next_one))]
-fn facts_of(alloc: Global, levels: &[Level]) -> Result<Vec<LevelFacts>, Memory>
-    ensures { IfOk result (λ facts. AreFactsOf levels.now facts.items) }
+fn facts_of(alloc: Global, client: &Client, levels: &[Level]) -> Result<Vec<LevelFacts>, Memory>
+    ensures { IfOk result (λ facts. AllZip (IsFactsBy client.now) levels.now facts.items) }
 {
     let mut facts = Vec::new(alloc);
     for level in levels {
-        facts.push(LevelFacts::of(level))?;
+        facts.push(LevelFacts::of(level, known_sum(client, level.counts)))?;
     }
     Ok(facts)
 }

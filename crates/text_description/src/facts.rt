@@ -21,6 +21,9 @@ pub struct LevelFacts {
     pub block: (u32, u32),
     /// The number of tiles.
     pub tiles: u32,
+    /// The number of bytes that the tiles have in the file, where TileByteCounts is known.
+    #[serde(skip_serializing_if = "Option::is_none")]
+    pub bytes: Option<u64>,
     /// The number of samples of a pixel.
     pub samples: u16,
     /// The number of bits of a sample.
@@ -84,14 +87,16 @@ const PROJECTED_LABEL: &[u8] = b"PCS Name = ";
 const GEODETIC_LABEL: &[u8] = b"GCS Name = ";
 
 impl LevelFacts {
-    /// Returns the facts of a level: its sides, its tiles and its samples.
-    pub fn of(level: &Level) -> LevelFacts
+    /// Returns the facts of a level: its sides, its tiles and its samples. `bytes` is the number of bytes that its tiles have, if it is known.
+    pub fn of(level: &Level, bytes: Option<u64>) -> LevelFacts
         ensures { IsFactsOf level.now result }
+        ensures bytes { result.bytes ≡ bytes }
     {
         LevelFacts {
             size: (level.width, level.length),
             block: (level.tile_width, level.tile_length),
             tiles: level.offsets.count,
+            bytes,
             samples: level.samples,
             bits: level.bits,
             kind: type_name(level.bits),

@@ -55,7 +55,11 @@ impl fmt::Display for LevelFacts {
             f,
             "compression {}, {tiles} of {across} by {down}",
             self.compression
-        )
+        )?;
+        match self.bytes {
+            Some(bytes) => write!(f, ", {bytes} bytes"),
+            None => Ok(()),
+        }
     }
 }
 

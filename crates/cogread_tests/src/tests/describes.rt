@@ -50,24 +50,94 @@ pub fn points(alloc: Global) -> Result<Vec<u8>, AllocError> {
     Ok(file)
 }
 
+/// The fields of 16 by 16 samples of 8 bits in a tile that stands at 152, with GDAL_NODATA: the text 0.
+#[rattlefmt::skip]
+const FIELDS_WITH_NO_DATA: [Field; 10] = [
+    Field { tag: 256, values: Short(16) },
+    Field { tag: 257, values: Short(16) },
+    Field { tag: 258, values: Short(8) },
+    Field { tag: 259, values: Short(1) },
+    Field { tag: 262, values: Short(1) },
+    Field { tag: 322, values: Short(16) },
+    Field { tag: 323, values: Short(16) },
+    Field { tag: 324, values: Long(152) },
+    Field { tag: 325, values: Long(256) },
+    Field { tag: 42113, values: At { kind: FieldType::Ascii, count: 2, first: 48 } },
+];
+
+/// The fields of a transparency mask, as far as they are read.
+const FIELDS_OF_A_MASK: [Field; 1] = [Field {
+    tag: 254,
+    values: Long(4),
+}];
+
+/// A file with a value for no data, and a mask, whose directory stands at 134.
+fn masked(alloc: Global) -> Result<Vec<u8>, AllocError> {
+    let mut file = Vec::new(alloc);
+    push_header(&mut file, Order::Little, 8)?;
+    push_directory(&mut file, Order::Little, &FIELDS_WITH_NO_DATA, 134)?;
+    push_directory(&mut file, Order::Little, &FIELDS_OF_A_MASK, 0)?;
+    file.extend_from_slice(&[0; 256])?;
+    Ok(file)
+}
+
+const WORDS_OF_MASKED: &str = "\
+tag \"1-1\"
+408 bytes
+level 0: 16 columns, 16 rows, 1 sample of 8 bits, photometric BlackIsZero, compression none, 1 tile of 16 by 16, 256 bytes
+pixels with the value 0 mean no data, by the file
+1 mask, not read
+";
+
+const JSON_OF_MASKED: &str = r#"{
+  "tag": "\"1-1\"",
+  "length": 408,
+  "size": [
+    16,
+    16
+  ],
+  "levels": [
+    {
+      "size": [
+        16,
+        16
+      ],
+      "block": [
+        16,
+        16
+      ],
+      "tiles": 1,
+      "bytes": 256,
+      "samples": 1,
+      "bits": 8,
+      "type": "Byte",
+      "photometric": "BlackIsZero",
+      "compression": "none"
+    }
+  ],
+  "noDataValue": "0",
+  "masks": 1
+}
+"#;
+
 const WORDS_OF_F1: &str = "\
 tag \"1-1\"
 378 bytes
-level 0: 16 columns, 16 rows, 1 sample of 8 bits, photometric BlackIsZero, compression none, 1 tile of 16 by 16
+level 0: 16 columns, 16 rows, 1 sample of 8 bits, photometric BlackIsZero, compression none, 1 tile of 16 by 16, 256 bytes
 ";
 
 const WORDS_OF_F3: &str = "\
 tag \"1-1\"
 1456 bytes
-level 0: 32 columns, 32 rows, 1 sample of 8 bits, photometric BlackIsZero, compression none, 4 tiles of 16 by 16
-level 1: 16 columns, 16 rows, 1 sample of 8 bits, photometric BlackIsZero, compression PackBits, 1 tile of 16 by 16
+level 0: 32 columns, 32 rows, 1 sample of 8 bits, photometric BlackIsZero, compression none, 4 tiles of 16 by 16, 1024 bytes
+level 1: 16 columns, 16 rows, 1 sample of 8 bits, photometric BlackIsZero, compression PackBits, 1 tile of 16 by 16, 32 bytes
 coordinate system (WGS 84)
 ";
 
 const WORDS_OF_POINTS: &str = "\
 tag \"1-1\"
 520 bytes
-level 0: 16 columns, 16 rows, 1 sample of 8 bits, photometric BlackIsZero, compression none, 1 tile of 16 by 16
+level 0: 16 columns, 16 rows, 1 sample of 8 bits, photometric BlackIsZero, compression none, 1 tile of 16 by 16, 256 bytes
 coordinate system 26711
 a pixel is a point: the image begins half a pixel before the first one
 origin 440690.0 3751350.0
@@ -97,6 +167,7 @@ const JSON_OF_POINTS: &str = r#"{
         16
       ],
       "tiles": 1,
+      "bytes": 256,
       "samples": 1,
       "bits": 8,
       "type": "Byte",
@@ -104,6 +175,7 @@ const JSON_OF_POINTS: &str = r#"{
       "compression": "none"
     }
   ],
+  "masks": 0,
   "coordinateSystem": {
     "number": 26711
   },
@@ -149,6 +221,8 @@ fn tells_what_a_file_is(rt: HostRuntime) -> Result<(), Fail> {
         (f3(alloc)?, Form::Words, WORDS_OF_F3),
         (points(alloc)?, Form::Words, WORDS_OF_POINTS),
         (points(alloc)?, Form::Json, JSON_OF_POINTS),
+        (masked(alloc)?, Form::Words, WORDS_OF_MASKED),
+        (masked(alloc)?, Form::Json, JSON_OF_MASKED),
     ] {
         let server = server_of_one(alloc, 1, b"a", file)?;
         let told = told_of(Capture::new(&rt), &server, Asked::Description(form));

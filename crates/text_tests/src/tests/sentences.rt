@@ -90,16 +90,36 @@ const WAYS: [(FileFault, &str); 3] = [
     (FileFault::TooLarge, "Ask for less: by --columns C, --level N, or in several windows"),
 ];
 
-/// Faults, and the line that explains each.
+/// Faults, the value that was found, and the line that explains each.
 #[rattlefmt::skip]
-const EXPLAINED: [(FileFault, &str); 2] = [
+const EXPLAINED: [(FileFault, Option<u64>, &str); 5] = [
     (
         FileFault::Unsupported(259),
+        None,
         "fault 9 259: Compression (259) has another value: only none (1) and PackBits (32773) are read. \
         Convert it: gdal_translate -co TILED=YES -co COMPRESS=PACKBITS in.tif out.tif",
     ),
     (
+        FileFault::Unsupported(259),
+        Some(5),
+        "fault 9 259: Compression (259) is 5 (LZW): only none (1) and PackBits (32773) are read. \
+        Convert it: gdal_translate -co TILED=YES -co COMPRESS=PACKBITS in.tif out.tif",
+    ),
+    (
+        FileFault::Unsupported(258),
+        Some(32),
+        "fault 9 258: BitsPerSample (258) is 32: only 8 or 16 bits are read, the same for all samples. \
+        Convert it: gdal_translate -co TILED=YES -co COMPRESS=PACKBITS -co NBITS=8 -ot Byte -scale in.tif out.tif",
+    ),
+    (
+        FileFault::Unsupported(262),
+        Some(3),
+        "fault 9 262: PhotometricInterpretation (262) is 3 (a palette): only grey, black being 0 (1), and RGB (2) are read. \
+        Convert it: gdal_translate -co TILED=YES -co COMPRESS=PACKBITS -co PHOTOMETRIC=MINISBLACK in.tif out.tif",
+    ),
+    (
         FileFault::PastEnd,
+        None,
         "fault 2: bytes that are needed end after the file. Copy it anew: it was cut, or isn't written to its end",
     ),
 ];
@@ -157,8 +177,8 @@ fn tells_what_helps(rt: HostRuntime) -> Result<(), Fail> {
 
 #[test]
 fn explains_faults(rt: HostRuntime) -> Result<(), Fail> {
-    for (fault, want) in EXPLAINED {
-        let told = format!(in rt.alloc(); "{}", ExplainedFault(fault))?;
+    for (fault, found, want) in EXPLAINED {
+        let told = format!(in rt.alloc(); "{}", ExplainedFault { fault, found })?;
         assert_eq!(rt; told.as_str(), want);
     }
     Ok(())
