@@ -22,13 +22,13 @@ pub loop-index-preserved : goal.loop-index-preserved
 loop-index-preserved g c = record {
   some = omega arith;
   here = λ f of.
-    let index = c.loop-index.index in
-    let is : index ≡ index - 1 + 1 = omega (arith, c.loop-index.invariant.some) in
-    let same : index ≡ index + 1 - 1 = omega arith in
-    let some = c.if-branch-eq0.false in
-    subst (λ i. has_directory f i ≡ true) same
-    (has_next f (index - 1) index c.in_ok-directory_at.field-0 is (c.loop-index.invariant.here f of) (c.in_ok-directory_at.ensures.directory.known f of)
-    (omega (arith, some)));
+      let index = c.loop-index.index in
+      let is : index ≡ index - 1 + 1 = omega (arith, c.loop-index.invariant.some) in
+      let same : index ≡ index + 1 - 1 = omega arith in
+      let some = c.if-branch-eq0.false in
+      subst (λ i. has_directory f i ≡ true) same
+      (has_next f (index - 1) index c.in_ok-directory_at.field-0 is (c.loop-index.invariant.here f of) (c.in_ok-directory_at.ensures.directory.known f of)
+      (omega (arith, some)));
 }
 
 pub returns-clause-known : goal.returns-clause-known
