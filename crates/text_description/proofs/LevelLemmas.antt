@@ -10,9 +10,9 @@ use Rattle.text_description.specs.Description.{IsFactsBy}
 -- one more level has its facts behind those
 one_more : {A B : Type 0} (R : A → B → Type 0) (xs : List A) (ys : List B) (x : A) (y : B) → AllZip R xs ys → R x y → AllZip R (xs ++ x ∷ []) (ys ++ y ∷ [])
 one_more R [] [] x y are is = (is, tt)
-one_more R [] (b ∷ bs) x y are is = absurd are
-one_more R (a ∷ as) [] x y are is = absurd are
-one_more R (a ∷ as) (b ∷ bs) x y are is = (are.0, one_more R as bs x y are.1 is)
+one_more R [] (b ∷ ys) x y are is = absurd are
+one_more R (a ∷ xs) [] x y are is = absurd are
+one_more R (a ∷ xs) (b ∷ ys) x y are is = (are.0, one_more R xs ys x y are.1 is)
 
 -- so it is with the level at the next place
 pub next_one : (c : ClientState) (levels : List Level) (k : ℕ) (level : Level) (facts more : List LevelFacts) (fact : LevelFacts)

@@ -87,7 +87,8 @@ const PROJECTED_LABEL: &[u8] = b"PCS Name = ";
 const GEODETIC_LABEL: &[u8] = b"GCS Name = ";
 
 impl LevelFacts {
-    /// Returns the facts of a level: its sides, its tiles and its samples. `bytes` is the number of bytes that its tiles have, if it is known.
+    /// Returns the facts of a level: its sides, its tiles and its samples. `bytes` is the number of bytes that its tiles have, if it is
+    /// known.
     pub fn of(level: &Level, bytes: Option<u64>) -> LevelFacts
         ensures facts { IsFactsOf level.now result }
         ensures bytes { result.bytes ≡ bytes }

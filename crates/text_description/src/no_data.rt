@@ -15,8 +15,8 @@ const MOST_BYTES: u32 = 64;
 /// The bit of NewSubfileType that marks a transparency mask (TIFF 6.0, section 8).
 const MASK: u64 = 4;
 
-/// Returns the text of GDAL_NODATA in the file's first directory, without its NUL. Returns `None` where the file has no such field, where its
-/// bytes aren't known, and where the text has more than 63 bytes or no NUL. Fails where no memory is left.
+/// Returns the text of GDAL_NODATA in the file's first directory, without its NUL. Returns `None` where the file has no such field, where
+/// its bytes aren't known, and where the text has more than 63 bytes or no NUL. Fails where no memory is left.
 pub fn no_data_text<B: KnownBytes>(alloc: Global, bytes: &B) -> Result<Option<Vec<u8>>, AllocError>
     ensures { IfOk result (λ o. IfSome o (λ text. (f : List ℕ) → B.is_of bytes.now f → IsNoDataText f text.items)) }
 {
