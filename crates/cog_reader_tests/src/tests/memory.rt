@@ -4,10 +4,10 @@ ghost use Rattle.cog_reader.specs.Reader.{steps_of, IsWanted, Wants};
 
 use super::image::{Image, part};
 use cog_reader::{Outcome, Reader};
-use cog_reader_support::{FACTS_OF_F3, Fixture, Want, is_wanted, of_level};
+use cog_reader_support::{FACTS_OF_F3, Fixture, Want, is_wanted, of_level, window};
 use std::process::Abort;
 use std::test::Fail;
-use tiff_dir::{FileFault, Memory, Query, Span};
+use tiff_dir::{FileFault, Memory, Pick, Query, Span};
 
 /// What is wanted, asked twice if no memory is found.
 fn need_again(reader: &mut Reader) -> Result<Option<Span>, Memory>
@@ -42,9 +42,33 @@ fn read_again(reader: &mut Reader, file: &[u8]) -> Result<(), Memory> {
     Ok(())
 }
 
-/// Whether this is the outcome of the query, one of the three of f3 that are asked here.
+/// Whether this is the whole of level 0 of f3: every sample of tile t, of two by two, is 16 + t.
+fn is_whole_level_0(outcome: Option<&Outcome>) -> bool {
+    let Some(Outcome::Window(window)) = outcome else {
+        return false;
+    };
+    let mut samples = window.pixels.iter().enumerate();
+    (window.w, window.h, window.pixels.len()) == (32, 32, 1024)
+        && samples.all(|(at, sample)| usize::from(*sample) == 16 + at / 512 * 2 + at % 32 / 16)
+}
+
+/// Whether this is the whole of level 1 of f3: every sample of row y is y.
+fn is_whole_level_1(outcome: Option<&Outcome>) -> bool {
+    let Some(Outcome::Window(window)) = outcome else {
+        return false;
+    };
+    let mut samples = window.pixels.iter().enumerate();
+    (window.w, window.h, window.pixels.len()) == (16, 16, 256)
+        && samples.all(|(at, sample)| usize::from(*sample) == at / 16)
+}
+
+/// Whether this is the outcome of the query, one of those of f3 that are asked here.
 fn is_right(outcome: Option<&Outcome>, query: Query) -> bool {
-    if query == Query::Info {
+    if query == window((0, 0, 32, 32, Pick::Columns(16))) {
+        is_whole_level_1(outcome)
+    } else if query == window((0, 0, 32, 32, Pick::Columns(17))) {
+        is_whole_level_0(outcome)
+    } else if query == Query::Info {
         is_wanted(outcome, Want::Info(FACTS_OF_F3))
     } else if query == of_level(15, 15, 2, 2, 0) {
         let bytes = [0x10, 0x11, 0x12, 0x13];
@@ -54,11 +78,13 @@ fn is_right(outcome: Option<&Outcome>, query: Query) -> bool {
     }
 }
 
-/// A window of plain tiles, one of a packed tile, and Info.
-fn queries() -> [Query; 3] {
+/// A window of plain tiles, one of a packed tile, the whole of each level by its columns, and Info.
+fn queries() -> [Query; 5] {
     [
         of_level(15, 15, 2, 2, 0),
         of_level(3, 4, 1, 3, 1),
+        window((0, 0, 32, 32, Pick::Columns(16))),
+        window((0, 0, 32, 32, Pick::Columns(17))),
         Query::Info,
     ]
 }

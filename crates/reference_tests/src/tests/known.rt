@@ -3,10 +3,11 @@ ghost use Rattle.std.specs.Prelude.{◌≡◌, ◌+◌, nat_le, length, min};
 
 use assertion_support::expect_eq;
 use fixtures_support::{f1, f1m, f2, f2b, f3, f4, f6, f6m};
-use known_fields::{KnownBytes, WholeFile, known_directories, known_value};
-use reference_support::{all_directories, value};
+use known_fields::{KnownBytes, WholeFile, known_directories, known_sum, known_value};
+use reference_support::{all_directories, place, value};
 use std::process::Abort;
 use std::test::Fail;
+use tiff_dir::{Kind, Place};
 
 /// A file of which only the first bytes are known.
 #[derive(Clone, Copy)]
@@ -92,6 +93,34 @@ fn reads_values_of_known_bytes(rt: HostRuntime) -> Result<(), Fail> {
         compare_fronts(&rt, file, name);
         let count = all_directories(alloc, file)?.len();
         expect_eq!(rt; known_directories(&WholeFile(file)).map(usize::from), Some(count), "{name}");
+    }
+    Ok(())
+}
+
+/// Files with their tiles' bytes in the first directory, and in the second one, if there is one.
+#[test]
+fn sums_the_bytes_of_tiles(rt: HostRuntime) -> Result<(), Fail> {
+    let alloc = rt.alloc();
+    for (name, file, sums) in [
+        ("f1m", f1m(alloc)?, [Some(256), None]),
+        ("f2", f2(alloc)?, [Some(65536), None]),
+        ("f3", f3(alloc)?, [Some(1024), Some(32)]),
+    ] {
+        for (directory, want) in sums.iter().enumerate() {
+            let sum = match place(&file, directory as u32, 325) {
+                Some(place) if place.first < 8_589_934_592 => known_sum(&WholeFile(&file), place),
+                _ => None,
+            };
+            expect_eq!(rt; sum, *want, "{name}: directory {directory}");
+        }
+        let past = Place {
+            first: file.len() as u64 - 1,
+            len: 2,
+            count: 1,
+            kind: Kind::Short,
+        };
+        assert!(rt; past.first < 8_589_934_592);
+        expect_eq!(rt; known_sum(&WholeFile(&file), past), None, "{name}: past the end");
     }
     Ok(())
 }

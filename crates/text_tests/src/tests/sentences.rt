@@ -1,8 +1,11 @@
 //! Faults of a file, and reasons why an answer isn't used, as sentences.
+use assertion_support::expect_eq;
 use cog_client::Why;
+use fixtures_support::f1;
+use known_fields::WholeFile;
 use read_progress::WhySentence;
 use std::test::Fail;
-use text_report::{ExplainedFault, FaultSentence, WayOut};
+use text_report::{ExplainedFault, FaultSentence, WayOut, found_value};
 use tiff_dir::FileFault;
 
 /// Faults about no field, and what is told of them.
@@ -180,6 +183,23 @@ fn explains_faults(rt: HostRuntime) -> Result<(), Fail> {
     for (fault, found, want) in EXPLAINED {
         let told = format!(in rt.alloc(); "{}", ExplainedFault { fault, found })?;
         assert_eq!(rt; told.as_str(), want);
+    }
+    Ok(())
+}
+
+/// The compression of f1, at byte 54.
+#[test]
+fn finds_the_value_that_is_not_read(rt: HostRuntime) -> Result<(), Fail> {
+    for (compression, found) in [(1, None), (5, Some(5)), (8, Some(8))] {
+        let mut file = f1(rt.alloc())?;
+        assert!(rt; file.len() > 54);
+        file[54] = compression;
+        let bytes = WholeFile(&file);
+        expect_eq!(rt; found_value(&bytes, 259), found);
+        let explained = ExplainedFault::of(FileFault::Unsupported(259), &bytes);
+        expect_eq!(rt; explained.found, found);
+        let explained = ExplainedFault::of(FileFault::Missing(259), &bytes);
+        expect_eq!(rt; explained.found, None);
     }
     Ok(())
 }
