@@ -4,8 +4,7 @@ ghost use Rattle.std.specs.Prelude.{◌≡◌, ◌+◌, nat_le, length, min};
 use assertion_support::expect_eq;
 use fixtures_support::{f1, f1m, f2, f2b, f3, f4, f6, f6m};
 use known_fields::{KnownBytes, WholeFile, known_directories, known_sum, known_value};
-use reference_support::{all_directories, place, value};
-use std::process::Abort;
+use reference_support::{place, value};
 use std::test::Fail;
 use tiff_dir::{Kind, Place};
 
@@ -40,87 +39,106 @@ const TAGS: [u16; 16] = [
 /// Values of a field that are compared.
 const INDICES: [u32; 4] = [0, 2, 15, u32::MAX];
 
-/// Compares each value of the whole file with the plain program's, in directories that are there and in one that isn't.
-fn compare_values<R: Abort>(rt: &R, file: &[u8], name: &str) {
+/// Returns the first directory, tag and index at which the value of the whole file isn't the plain program's.
+fn first_difference(file: &[u8]) -> Option<(u16, u16, u32)> {
     for directory in 0u16..3 {
         for tag in TAGS {
             for index in INDICES {
                 let want = value(file, u32::from(directory), tag, u64::from(index));
-                expect_eq!(rt;
-                    known_value(&WholeFile(file), directory, tag, index),
-                    want,
-                    "{name}: value {index} of {tag} in directory {directory}"
-                );
+                if known_value(&WholeFile(file), directory, tag, index) != want {
+                    return Some((directory, tag, index));
+                }
             }
         }
     }
+    None
 }
 
-/// Compares what is known of a front: nothing, or what the whole file has.
-fn compare_fronts<R: Abort>(rt: &R, file: &[u8], name: &str) {
+/// Returns the first front, by its number of bytes, and the tag at which what is known isn't the plain program's value.
+fn first_false_front(file: &[u8]) -> Option<(usize, u16)> {
     for known in (0..file.len().min(400)).step_by(13) {
         let front = Front { file, known };
-        if let Some(count) = known_directories(&front) {
-            expect_eq!(rt; Some(count), known_directories(&WholeFile(file)), "{name}");
-        }
         for tag in TAGS {
-            if let Some(found) = known_value(&front, 0, tag, 0) {
-                expect_eq!(rt;
-                    Some(found),
-                    value(file, 0, tag, 0),
-                    "{name}: the value of {tag} in {known} bytes"
-                );
+            let found = known_value(&front, 0, tag, 0);
+            if found.is_some() && found != value(file, 0, tag, 0) {
+                return Some((known, tag));
             }
         }
     }
+    None
 }
 
+/// Files, and how many directories each has.
 #[test]
 fn reads_values_of_known_bytes(rt: HostRuntime) -> Result<(), Fail> {
     let alloc = rt.alloc();
     let files = [
-        ("f1", f1(alloc)?),
-        ("f1m", f1m(alloc)?),
-        ("f2", f2(alloc)?),
-        ("f2b", f2b(alloc)?),
-        ("f3", f3(alloc)?),
-        ("f4", f4(alloc)?),
-        ("f6", f6(alloc)?),
-        ("f6m", f6m(alloc)?),
+        (f1(alloc)?, 1),
+        (f1m(alloc)?, 1),
+        (f2(alloc)?, 1),
+        (f2b(alloc)?, 1),
+        (f3(alloc)?, 2),
+        (f4(alloc)?, 1),
+        (f6(alloc)?, 1),
+        (f6m(alloc)?, 1),
     ];
-    for (name, file) in &files {
-        compare_values(&rt, file, name);
-        compare_fronts(&rt, file, name);
-        let count = all_directories(alloc, file)?.len();
-        expect_eq!(rt; known_directories(&WholeFile(file)).map(usize::from), Some(count), "{name}");
+    for (file, directories) in &files {
+        expect_eq!(rt; first_difference(file), None);
+        expect_eq!(rt; first_false_front(file), None);
+        expect_eq!(rt; known_directories(&WholeFile(file)), Some(*directories));
     }
     Ok(())
 }
 
-/// Files with their tiles' bytes in the first directory, and in the second one, if there is one.
+/// The directories of f3, by how many of its bytes are known.
+#[test]
+fn counts_directories_that_are_known(rt: HostRuntime) -> Result<(), Fail> {
+    let file = f3(rt.alloc())?;
+    for (known, want) in [(8, None), (120, None), (1456, Some(2))] {
+        let front = Front { file: &file, known };
+        expect_eq!(rt; known_directories(&front), want);
+    }
+    Ok(())
+}
+
+/// Returns the sum of TileByteCounts in a directory, where that field is in the file.
+fn tile_bytes(file: &[u8], directory: u32) -> Option<u64> {
+    let place = place(file, directory, 325)?;
+    if place.first < 1 << 33 {
+        known_sum(&WholeFile(file), place)
+    } else {
+        None
+    }
+}
+
 #[test]
 fn sums_the_bytes_of_tiles(rt: HostRuntime) -> Result<(), Fail> {
     let alloc = rt.alloc();
-    for (name, file, sums) in [
-        ("f1m", f1m(alloc)?, [Some(256), None]),
-        ("f2", f2(alloc)?, [Some(65536), None]),
-        ("f3", f3(alloc)?, [Some(1024), Some(32)]),
-    ] {
-        for (directory, want) in sums.iter().enumerate() {
-            let sum = match place(&file, directory as u32, 325) {
-                Some(place) if place.first < 8_589_934_592 => known_sum(&WholeFile(&file), place),
-                _ => None,
-            };
-            expect_eq!(rt; sum, *want, "{name}: directory {directory}");
-        }
-        let past = Place {
-            first: file.len() as u64 - 1,
+    let files = [
+        (f1m(alloc)?, 0, Some(256)),
+        (f2(alloc)?, 0, Some(65536)),
+        (f3(alloc)?, 0, Some(1024)),
+        (f3(alloc)?, 1, Some(32)),
+        (f3(alloc)?, 2, None),
+    ];
+    for (file, directory, want) in &files {
+        expect_eq!(rt; tile_bytes(file, *directory), *want);
+    }
+    Ok(())
+}
+
+#[test]
+fn sums_nothing_past_the_end(rt: HostRuntime) -> Result<(), Fail> {
+    let file = f1(rt.alloc())?;
+    for (first, want) in [(376, Some(65278)), (377, None), (378, None)] {
+        let place = Place {
+            first,
             len: 2,
             count: 1,
             kind: Kind::Short,
         };
-        assert!(rt; past.first < 8_589_934_592);
-        expect_eq!(rt; known_sum(&WholeFile(&file), past), None, "{name}: past the end");
+        assert!(rt; first < 1 << 33);
+        expect_eq!(rt; known_sum(&WholeFile(&file), place), want, "{first}");
     }
     Ok(())
 }
