@@ -332,7 +332,7 @@ class Program(unittest.TestCase):
 
     def test_interrupted_in_a_read(self):
         """A read that goes on isn't waited for."""
-        with Made(lambda *_: time.sleep(20)) as server:
+        with Made(lambda *_: time.sleep(20) or b'') as server:
             process = subprocess.Popen([*PROGRAM, '--no-browser', server.url()], stdout=subprocess.PIPE, text=True, cwd=FOLDER,
                                        env=self.variables)
             port = int(process.stdout.readline().split(':')[-1].strip('/\n'))
@@ -348,9 +348,9 @@ class Program(unittest.TestCase):
     def test_words(self):
         many = [EXAMPLE] * 17
         for words, sentence in ([], 'required'), (many, 'at most 16'), (['--port', '70000', EXAMPLE], 'a port'), (
-                ['--readers', '0', EXAMPLE], 'readers'), (['--seconds', '0', EXAMPLE], 'seconds'), (['http://a/b?c'], 'no query'), (
+                ['--readers', '0', EXAMPLE], 'readers'), (['--seconds', '0', EXAMPLE], 'seconds'), (['http://a/b#c'], 'no fragment'), (
                 ['--allow-origin', 'a b', EXAMPLE], 'an origin'):
-            done = subprocess.run([*PROGRAM, *words], capture_output=True, text=True, env=self.variables, cwd=FOLDER)
+            done = subprocess.run([*PROGRAM, *words], capture_output=True, text=True, env=self.variables, cwd=FOLDER, timeout=60)
             self.assertEqual(done.returncode, 2, words)
             self.assertIn(sentence, done.stderr)
         done = subprocess.run([sys.executable, '-m', 'delgunsai'], capture_output=True, text=True, env=self.variables, cwd=FOLDER)
