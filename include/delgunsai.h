@@ -43,10 +43,10 @@
  *   - A pointer is to as many bytes as the length after it says, or to the struct. It isn't NULL, not even where the length is 0.
  *     The library keeps no pointer of the caller's: memory that a call is given is the caller's again when the call returns. What a
  *     call writes to, another pointer of the same call isn't to.
- *   - Any call but cog_client_new and cog_client_free of a client that was never made, or is freed, gives COG_NO_CLIENT and does
- *     nothing else.
+ *   - Any call but cog_client_new, delgunsai_client_by_url and cog_client_free of a client that was never made, or is freed, gives
+ *     COG_NO_CLIENT and does nothing else.
  *   - A handle is used by one call at a time. It may be moved to another place in memory, and isn't copied to be used twice.
- *   - A thread that calls cog_client_new makes all further calls of that handle, cog_client_free too. Threads with clients of their own
+ *   - The thread that makes a client makes all further calls of that handle, cog_client_free too. Threads with clients of their own
  *     call at the same time: two clients share nothing. Any thread calls cog_swap_pairs. The Python package calls one client from
  *     several threads, one at a time under a lock. That is tested, and not proved.
  *   - malloc, realloc and free are of one allocator. No call is made from a signal handler, nor in the forked child of a process with
@@ -120,7 +120,7 @@ static inline const char *delgunsai_error(int32_t result) {
 #define COG_TAG_ROOM 64
 
 /* A handle: what holds a client. The caller owns it, and makes it of zeros: struct cog_client client = {0}. The client in it is the
- * library's, from cog_client_new to cog_client_free. The fields are the library's too. */
+ * library's, from cog_client_new or delgunsai_client_by_url to cog_client_free. The fields are the library's too. */
 struct cog_client {
     void *at;
     bool full;
@@ -136,7 +136,8 @@ struct cog_client {
 int32_t cog_client_new(const uint8_t *host, size_t host_length, const uint8_t *name, size_t name_length, uint32_t blocks,
                        struct cog_client *client);
 
-/* delgunsai_client_by_url: makes a client of the file that a URL of http names, with a cache as cog_client_new. The one before is freed.
+/* delgunsai_client_by_url: makes a client of the file that a URL of http or https names, with a cache as cog_client_new. The one before is
+ * freed.
  *
  *   - authority: host and port, as they stand in the URL: a name, an IPv4 address or an IPv6 address in brackets, with a port or none
  *   - target: path and query, from the slash on; what isn't allowed there is percent-encoded (RFC 3986, section 2.1)
@@ -146,18 +147,22 @@ int32_t cog_client_new(const uint8_t *host, size_t host_length, const uint8_t *n
 int32_t delgunsai_client_by_url(const uint8_t *authority, size_t authority_length, const uint8_t *target, size_t target_length,
                                 uint32_t blocks, struct cog_client *client);
 
-/* delgunsai_client_add_field: adds a field to each request and check from here on, after those before, such as Authorization. What is asked
- * for already stays. The name is a token (RFC 9110, section 5.6.2). The value is visible ASCII, with spaces and tabs inside (section 5.5).
- * There are at most 16, and 1,024 bytes in all, with four for each. Gives 0, the first of DELGUNSAI_FIELD_.. that stands against it,
- * COG_MEMORY or COG_NO_CLIENT. */
+/* delgunsai_client_add_field: adds a field, such as Authorization, to each request and check from here on, after those before. The name
+ * is a token (RFC 9110, section 5.6.2). The value is visible ASCII, with spaces and tabs inside (section 5.5). There are at most 16 fields.
+ * Names, values and four bytes for each field are at most 1,024 bytes in all. Unless the result is 0, the client is as it was.
+ *
+ * Call it before the first query. Later on, the request that is under way stays as it was written, and its answer is taken. Those that were
+ * sent early without the field are made once more, by a driver over a new connection.
+ *
+ * Gives 0, the first of DELGUNSAI_FIELD_.. that stands against it, COG_MEMORY or COG_NO_CLIENT. */
 int32_t delgunsai_client_add_field(struct cog_client *client, const uint8_t *name, size_t name_length, const uint8_t *value,
                                    size_t value_length);
 
 /* cog_client_free: frees the client of a handle, if it has one; the handle is then as one of zeros. */
 void cog_client_free(struct cog_client *client);
 
-/* cog_client_forget: drops all that is known of the file, a report that stands too; host, name, query, whether connections are
- * kept, and how far it looks ahead, stay. Gives 0 or COG_NO_CLIENT. */
+/* cog_client_forget: drops all that is known of the file, a report that stands too; host, name, added fields, query, whether connections
+ * are kept, and how far it looks ahead, stay. Gives 0 or COG_NO_CLIENT. */
 int32_t cog_client_forget(struct cog_client *client);
 
 /* cog_client_keep_open: writes all requests but the check without `Connection: close` from here on, so that a connection may be kept from
@@ -184,9 +189,9 @@ int32_t cog_client_open_info(struct cog_client *client);
 
 /* cog_client_request: goes on as far as the known bytes reach, and lays the text of the next request into the room: a GET with a Range.
  * Gives the text's length; 0, where nothing is asked: a report stands, or there is no query; COG_MEMORY or COG_NO_CLIENT. Asked again
- * before an answer it gives the same text. An unfinished answer is dropped, as by cog_client_open_.. and cog_client_forget too: what is left of
- * it isn't fed. After COG_MEMORY nothing is asked, and the room is as it was; what is known of the file stays, and the call may be made
- * again. */
+ * before an answer it gives the same text, with the fields that were added since. An unfinished answer is dropped, as by
+ * cog_client_open_.. and cog_client_forget too: what is left of it isn't fed. After COG_MEMORY nothing is asked, and the room is as it was;
+ * what is known of the file stays, and the call may be made again. */
 int64_t cog_client_request(struct cog_client *client, uint8_t *room, size_t length);
 
 /* cog_client_later: lays a request's text into the room, of those that may be sent before the answer to the one comes which

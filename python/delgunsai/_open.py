@@ -4,7 +4,7 @@ from __future__ import annotations
 import os
 import re
 import ssl
-from typing import Mapping, Optional, SupportsIndex, Union
+from typing import List, Mapping, Optional, SupportsIndex, Tuple, Union
 
 from ._disk import Disk
 from ._file import File
@@ -25,8 +25,8 @@ def open(place: Union[str, 'os.PathLike[str]'], *, blocks: SupportsIndex = 256, 
     `timeout` is how many seconds each attempt to connect may take (one for each address of the host), each TLS handshake, and each read and
     write, None for ever. An exchange that brought nothing is tried three times, so `Lost` may take several of them. `deadline` is how many
     seconds a whole call may take, None for ever. After it the call fails with `Late`, which is a `Lost`. `context` says which certificates
-    are trusted, those of the system without it. `headers` are fields that each request has as well, such as `Authorization`. They are shown
-    nowhere. Proxies aren't used.
+    are trusted, those of the system without it. `headers` are fields that each request has as well, such as `Authorization`. Their values
+    are shown nowhere. Proxies aren't used.
 
     Fails with `BadUrl` where the URL is outside the rules, and with the `OSError` of the standard `open` where the path can't be opened.
     Fails with `ValueError` where a number is outside its limits, or a field can't be added, and with `TypeError` for another type.
@@ -40,11 +40,20 @@ def open(place: Union[str, 'os.PathLike[str]'], *, blocks: SupportsIndex = 256, 
     """
     count = number_of('blocks', blocks, 66, 4096)
     wait, most = seconds_of('timeout', timeout), seconds_of('deadline', deadline)
+    fields = _fields_of(headers)
     if not isinstance(place, str) or not URL.match(place):
         return open_file(place, blocks=count)
     address = Address(place)
-    fields = [(_bytes(name), _bytes(value)) for name, value in (headers or {}).items()]
     return File(Host(address, wait, context, most), address.netloc, address.target, count, fields)
+
+
+def _fields_of(headers: Optional[Mapping[str, str]]) -> List[Tuple[bytes, bytes]]:
+    """The names and values of the fields. Fails with `TypeError`, which shows none of them, where it is no mapping of texts."""
+    if headers is None:
+        return []
+    if not isinstance(headers, Mapping):
+        raise TypeError(f'headers is of type {type(headers).__name__}, and no mapping')
+    return [(_bytes(name), _bytes(value)) for name, value in headers.items()]
 
 
 def _bytes(text: str) -> bytes:

@@ -43,7 +43,8 @@ def certify(certificate, key):
 
 
 class Nginx:
-    """nginx, of a folder: with TLS, or without as Debian sets it up."""
+    """nginx, of a folder: with TLS, or without as Debian sets it up. The path /open/TOKEN/.. has files of the folder for requests with
+    `Authorization: Bearer TOKEN`, and the query `v=1`."""
 
     def __init__(self, root, secure=True):
         self.folder = tempfile.mkdtemp(dir=FOLDER)
@@ -60,7 +61,11 @@ class Nginx:
 events {{ }}
 http {{ access_log {self.folder}/access; {places} {ways}
   server {{ listen 127.0.0.1:{self.port}{' ssl' if secure else ''}; server_name localhost;
-    root {root}; location /moved {{ return 301 /grey.tif; }} }} }}'''
+    root {root}; location /moved {{ return 301 /grey.tif; }}
+    location ~ ^/open/(?<token>[a-z]+)(?<file>/.*)$ {{
+      if ($http_authorization != "Bearer $token") {{ return 401; }}
+      if ($args != "v=1&a/b?c") {{ return 404; }}
+      try_files $file =404; }} }} }}'''
         config = os.path.join(self.folder, 'conf')
         with open(config, 'w') as file:
             file.write(lines)
@@ -158,12 +163,13 @@ class Made(socketserver.ThreadingTCPServer):
     daemon_threads = True
     allow_reuse_address = True
     request_queue_size = 64
+    address = '127.0.0.1'
 
     def __init__(self, answer, handler=None, pause=0.001):
         self.answer = answer
         self.pause = pause
         self.connections = self.requests = self.at_once = self.sent = 0
-        super().__init__(('127.0.0.1', 0), handler or Making)
+        super().__init__((self.address, 0), handler or Making)
         threading.Thread(target=self.serve_forever, kwargs={'poll_interval': 0.01}, daemon=True).start()
 
     def url(self, name='a'):
@@ -172,6 +178,15 @@ class Made(socketserver.ThreadingTCPServer):
     def __exit__(self, *words):
         self.shutdown()
         super().__exit__(*words)
+
+
+class MadeOf6(Made):
+    """The same over IPv6."""
+    address_family = socket.AF_INET6
+    address = '::1'
+
+    def url(self, name='a'):
+        return f'http://[::1]:{self.server_address[1]}/{name}'
 
 
 class Secure(Made):

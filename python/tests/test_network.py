@@ -2,6 +2,7 @@
 import os
 import re
 import signal
+import socket
 import socketserver
 import subprocess
 import sys
@@ -15,7 +16,7 @@ import numpy
 from answers import head, served
 from delgunsai import _sources
 from files import noise, plain
-from servers import Batching, Ends, Made, Nginx, Resets
+from servers import Batching, Ends, Made, MadeOf6, Nginx, Resets
 from support import CORE, EXAMPLE, FOLDER, HEAP, TLS, TOP, in_python, needs
 
 SAMPLES = noise(1000)
@@ -50,23 +51,81 @@ def as_forked(do):
     return child
 
 
+FIELDS = {'Authorization': 'Bearer 0f', 'User-Agent': 'tests'}
+
+
 class Fields(unittest.TestCase):
     """Each request has the fields of its caller, and the path with the query of its URL."""
 
-    def test_requests(self):
+    def requests_of(self, kind, target, do):
+        """The requests of what this does with a file, whose URL ends with the target."""
         requests = []
 
         def answer(request, _):
             requests.append(request)
             return served(request, TEXT)
 
-        fields = {'Authorization': 'Bearer 0f', 'User-Agent': 'tests'}
-        with Made(answer) as server, delgunsai.open(server.url('year=2020/a%20b.tif?v=1'), headers=fields) as file:
-            self.assertTrue(right(file, 0, 0))
-        self.assertTrue(requests)
+        with kind(answer) as server, delgunsai.open(server.url(target), headers=FIELDS) as file:
+            self.assertTrue(do(file))
+            host = server.url(target).split('/')[2].encode()
         for request in requests:
-            self.assertTrue(request.startswith(b'GET /year=2020/a%20b.tif?v=1 HTTP/1.1\r\n'), request)
+            self.assertIn(request.split(b'\r\n')[0], (b'GET /%b HTTP/1.1' % target.encode(), b'HEAD /%b HTTP/1.1' % target.encode()))
+            self.assertIn(b'\r\nHost: %b\r\n' % host, request)
             self.assertIn(b'\r\nAuthorization: Bearer 0f\r\nUser-Agent: tests\r\n', request)
+        return requests
+
+    def test_requests(self):
+        for target in 'year=2020/a%20b.tif?v=1', 'a+b~c,d;e@f!$&\'()*:.tif', 'a?', '?a', '', '/a//b/?c?d/e', '%2e%2E/%00%ff', 'a?X-Amz-Signature=%2F0f&b=/c/d':
+            with self.subTest(target):
+                self.assertTrue(self.requests_of(Made, target, lambda file: right(file, 0, 0)))
+
+    def test_all_requests(self):
+        """Those of the other connections and of forked processes, and those that ask whether the file is the same, have them too."""
+        windows = [(x, y, 100, 100) for x in range(0, 1000, 100) for y in range(0, 1000, 250)]
+
+        def all_right(file):
+            arrays = file.read_windows(windows, connections=4)
+            self.assertTrue(all(numpy.array_equal(array, SAMPLES[y:y + 100, x:x + 100]) for array, (x, y, _, _) in zip(arrays, windows)))
+            self.assertTrue(file.same())
+            child = as_forked(lambda: right(file, 300, 300) and file.same())
+            return os.waitpid(child, 0)[1] == 0 and right(file, 700, 700)
+
+        requests = self.requests_of(Made, 'a?b', all_right)
+        self.assertEqual(sum(request.startswith(b'HEAD ') for request in requests), 2)
+
+    def test_ipv6(self):
+        """An IPv6 address stands in brackets in the URL and in Host."""
+        try:
+            socket.create_server(('::1', 0), family=socket.AF_INET6).close()
+        except OSError as error:
+            self.skipTest(f'::1: {error}')
+        self.assertTrue(self.requests_of(MadeOf6, 'a?b', lambda file: right(file, 0, 0) and file.same()))
+
+    @needs(TLS, 'nginx or openssl')
+    def test_nginx(self):
+        """nginx takes path, query and fields apart as they were meant."""
+        place = os.path.join(FOLDER, 'year=2020')
+        os.makedirs(place, exist_ok=True)
+        with open(os.path.join(place, 'a b+c~d%.tif'), 'wb') as out:
+            out.write(TEXT)
+        for secure in False, True:
+            with Nginx(FOLDER, secure) as server:
+                context = server.context() if secure else None
+                for path, query, headers, status in (
+                        ('open/secret/year=2020/a%20b+c~d%25.tif', '?v=1&a/b?c', {'Authorization': 'Bearer secret'}, None),
+                        ('open/secret/year%3d2020/a%20b%2bc%7Ed%25.tif', '?v=1&a/b?c', {'authorization': 'Bearer secret', 'A': ''}, None),
+                        ('open/secret/year=2020/a%20b%20c~d%25.tif', '?v=1&a/b?c', {'Authorization': 'Bearer secret'}, 404),
+                        ('open/secret/year=2020/a%20b+c~d%25.tif', '?v=1', {'Authorization': 'Bearer secret'}, 404),
+                        ('open/secret/year=2020/a%20b+c~d%25.tif', '?v=1&a/b?c', {'Authorization': 'Bearer secrets'}, 401),
+                        ('open/secret/year=2020/a%20b+c~d%25.tif', '?v=1&a/b?c', None, 401)):
+                    with self.subTest(path, secure=secure), delgunsai.open(server.url(path + query), context=context, headers=headers) as file:
+                        if status is None:
+                            self.assertTrue(right(file, 0, 0) and tall(file, 300) and file.same())
+                            continue
+                        with self.assertRaises(delgunsai.NotUsed) as seen:
+                            file.read(**cut_out(0, 0, 10))
+                        self.assertEqual((seen.exception.reason, seen.exception.status), (3, status))
+                        self.assertNotIn('Bearer', str(seen.exception))
 
 
 class Forked(unittest.TestCase):

@@ -16,6 +16,11 @@ from servers import Cogserve, Nginx
 from support import EXAMPLE, FOLDER, GDAL, TLS, needs
 
 
+RESERVED = ('Host', 'range', 'If-Range', 'If-None-Match', 'Connection', 'If-Match', 'If-Modified-Since', 'If-Unmodified-Since', 'Content-Length',
+            'Transfer-Encoding', 'Trailer', 'Expect', 'TE', 'Upgrade', 'Keep-Alive', 'Proxy-Connection')
+"""The fields that may not be added (docs/PROFILE.md)."""
+
+
 class Refused(unittest.TestCase):
     """What isn't read is told by an exception of a name."""
 
@@ -42,16 +47,24 @@ class Refused(unittest.TestCase):
         for name, value, rule in (
                 ('a b', 'secret', 'token'), ('', 'secret', 'token'), ('\u00e4', 'secret', 'token'), ('hOST', 'secret', 'writes'), ('Range', 'secret', 'writes'),
                 ('Connection', 'secret', 'writes'), ('Transfer-Encoding', 'secret', 'writes'), ('A', 'secret ', 'visible'), ('A', 'secret\r\nB: c', 'visible'),
-                ('A', 'secret\u00e4', 'visible'), ('A', 'secret' * 200, '1,024')):
+                ('A', 'secret\u00e4', 'visible'), ('A', 'secret' * 200, '1,024'), ('A', 'secret\0', 'visible'), ('A', '\tsecret', 'visible'),
+                ('A', 'secret\x7f', 'visible'), ('A', 'secret\ud800', 'visible'), ('A\ud800', 'secret', 'token'), ('A\r\nB', 'secret', 'token'),
+                *((name, 'secret', 'writes') for name in RESERVED)):
             with self.subTest(name), self.assertRaisesRegex(ValueError, rule) as seen:
                 delgunsai.open('http://host/a', headers={name: value})
             self.assertNotIn('secret', str(seen.exception))
+        with self.assertRaisesRegex(ValueError, '1,024'):
+            delgunsai.open('http://host/a', headers={"a!#$%&'*+-.^_`|~0": 'b', 'A': 'b' * 998})
         with self.assertRaisesRegex(ValueError, 'at most 16'):
             delgunsai.open('http://host/a', headers={f'A{i}': 'secret' for i in range(17)})
-        for headers in {'A': 5}, {5: 'secret'}, {'A': b'secret'}:
-            with self.assertRaises(TypeError) as kind:
-                delgunsai.open('http://host/a', headers=headers)
-            self.assertNotIn('secret', str(kind.exception))
+        for headers in {'A': 5}, {5: 'secret'}, {'A': b'secret'}, [('A', 'secret')], ('A', 'secret'), 'secret', b'', [], 0:
+            for place in 'http://host/a', EXAMPLE:
+                with self.subTest(headers), self.assertRaisesRegex(TypeError, '^headers') as kind:
+                    delgunsai.open(place, headers=headers)
+                self.assertNotIn('secret', str(kind.exception))
+        for headers in None, {}, {'A': ''}, {'A': 'b \t!~ b'}, {"a!#$%&'*+-.^_`|~0": 'b', 'A': 'b' * 997}, {f'A{i}': '' for i in range(16)}:
+            with self.subTest(headers):
+                delgunsai.open('http://host/a', headers=headers).close()
         with delgunsai.open('http://host/a', headers={'Authorization': 'secret'}) as file:
             self.assertNotIn('secret', repr(file))
 
@@ -201,7 +214,7 @@ class Refused(unittest.TestCase):
 
     def test_exceptions_are_pickled(self):
         faults = [kind(tag) for kind in delgunsai.FileFault.__subclasses__() for tag in (None, 259)]
-        for error in (delgunsai.BadUrl('http://a?b', 'it has no query'), delgunsai.NotUsed(3, 404), delgunsai.NotUsed(1),
+        for error in (delgunsai.BadUrl('http://a#b', 'it has no fragment'), delgunsai.NotUsed(3, 404), delgunsai.NotUsed(1),
                       delgunsai.Lost('no'), delgunsai.OutOfMemory('no'), delgunsai.Error('no'), *faults):
             for where in {}, {'where': 'http://a/b'}:
                 vars(error).update(where)

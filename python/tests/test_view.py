@@ -291,6 +291,25 @@ class Serves(unittest.TestCase):
             for file in files:
                 self.assertEqual(views.info(file['name'])['levels'][0], [64, 64])
 
+    def test_queries(self):
+        """The query of a URL is shown in the page alone: other pages may be let see names, infos and errors."""
+        with open(EXAMPLE, 'rb') as file:
+            text = file.read()
+
+        def answer(request, _):
+            return served(request, text) if b'/a%20b.tif?' in request else head(b'404 Not Found', b'Content-Length: 0')
+
+        with Made(answer) as server:
+            urls = [server.url(name) for name in ('a%20b.tif?sign=secret/c.tif', 'a%20b.tif?sign=secrets', 'none.tif?sign=secret')]
+            with Views(*urls, origin='*') as views:
+                self.assertEqual([layer.name for layer in views.layers], ['a_20b.tif', '2-a_20b.tif', 'none.tif'])
+                for layer, url in zip(views.layers[:2], urls):
+                    info = views.info(layer.name)
+                    self.assertEqual((info['levels'][0], info['place']), ([64, 64], url.split('?')[0]))
+                    self.assertEqual(views.get(f'/tiles/{layer.name}/0/0/0.png')[0], 200)
+                self.assertEqual(views.info('none.tif')['error'], f'{urls[2].split("?")[0]}: its status is 404')
+                self.assertIn('secrets', views.get('/')[2].decode())
+
     def test_other_pages(self):
         """Those of the origin that is named may use tiles and infos, and none else."""
         for origin, words in (None, 'same-origin'), ('http://127.0.0.1:9', 'cross-origin'), ('*', 'cross-origin'):
@@ -332,7 +351,7 @@ class Program(unittest.TestCase):
 
     def test_interrupted_in_a_read(self):
         """A read that goes on isn't waited for."""
-        with Made(lambda *_: time.sleep(20)) as server:
+        with Made(lambda *_: time.sleep(20) or b'') as server:
             process = subprocess.Popen([*PROGRAM, '--no-browser', server.url()], stdout=subprocess.PIPE, text=True, cwd=FOLDER,
                                        env=self.variables)
             port = int(process.stdout.readline().split(':')[-1].strip('/\n'))
@@ -348,9 +367,9 @@ class Program(unittest.TestCase):
     def test_words(self):
         many = [EXAMPLE] * 17
         for words, sentence in ([], 'required'), (many, 'at most 16'), (['--port', '70000', EXAMPLE], 'a port'), (
-                ['--readers', '0', EXAMPLE], 'readers'), (['--seconds', '0', EXAMPLE], 'seconds'), (['http://a/b?c'], 'no query'), (
+                ['--readers', '0', EXAMPLE], 'readers'), (['--seconds', '0', EXAMPLE], 'seconds'), (['http://a/b#c'], 'no fragment'), (
                 ['--allow-origin', 'a b', EXAMPLE], 'an origin'):
-            done = subprocess.run([*PROGRAM, *words], capture_output=True, text=True, env=self.variables, cwd=FOLDER)
+            done = subprocess.run([*PROGRAM, *words], capture_output=True, text=True, env=self.variables, cwd=FOLDER, timeout=60)
             self.assertEqual(done.returncode, 2, words)
             self.assertIn(sentence, done.stderr)
         done = subprocess.run([sys.executable, '-m', 'delgunsai'], capture_output=True, text=True, env=self.variables, cwd=FOLDER)

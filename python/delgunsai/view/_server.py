@@ -11,7 +11,7 @@ from typing import Any, Dict, List, NamedTuple, Optional, Sequence, Tuple
 from urllib.parse import parse_qs, urlsplit
 
 from .._errors import Error
-from ._layer import SIDE, Changed, Layer, Limits, Nowhere, Reading, Revision
+from ._layer import SIDE, Changed, Layer, Limits, Nowhere, Reading, Revision, is_url
 
 HOST = '127.0.0.1'
 MOST_TARGET = 2000
@@ -167,17 +167,24 @@ class Handler(http.server.BaseHTTPRequestHandler):
 def described(layer: Layer, revision: Revision) -> Dict[str, Any]:
     """Returns what `/info/NAME.json` has of a revision."""
     crs = revision.crs
-    return {'name': layer.name, 'place': layer.place, 'tag': revision.tag, 'levels': revision.info.levels, 'tile': SIDE,
+    return {'name': layer.name, 'place': without_query(layer.place), 'tag': revision.tag, 'levels': revision.info.levels, 'tile': SIDE,
             'samples': revision.samples, 'most': revision.most, 'limits': revision.limits, 'percentiles': revision.percentiles,
             'extent': revision.extent, 'transform': revision.transform, 'bounds': revision.bounds,
             'crs': None if crs is None else {'epsg': crs.epsg, 'text': crs.text}}
 
 
 def sentence(error: BaseException) -> str:
-    """Returns an error as a sentence."""
+    """Returns an error as a sentence, without the query of a URL."""
     if isinstance(error, OSError) and error.strerror and error.filename is not None:
         return f'{error.filename}: {error.strerror}'
-    return str(error) or type(error).__name__
+    text = str(error) or type(error).__name__
+    where = error.where if isinstance(error, Error) else None
+    return text if where is None else text.replace(where, without_query(where))
+
+
+def without_query(place: str) -> str:
+    """Returns a place as other pages may see it. The query of a URL may be a signature, with which others could read the file."""
+    return place.partition('?')[0] if is_url(place) else place
 
 
 def _json(status: int, told: Dict[str, Any], tag: Optional[str] = None) -> Answer:
@@ -210,10 +217,11 @@ def _page_file(name: str) -> bytes:
 
 
 def layers_of(places: Sequence[str], readers: int, seconds: float) -> Tuple[Layer, ...]:
-    """Returns a layer for each place, by names that a URL can have: the last part of the place, with a number where it isn't the first."""
+    """Returns a layer for each place, by names that a URL can have: the last part of the place without its query, with a number where it
+    isn't the first."""
     names: List[str] = []
     for place in places:
-        last = re.sub('[^A-Za-z0-9._-]', '_', os.path.basename(place.rstrip('/')))[-80:].lstrip('.') or 'file'
+        last = re.sub('[^A-Za-z0-9._-]', '_', os.path.basename(without_query(place).rstrip('/')))[-80:].lstrip('.') or 'file'
         number = 1
         while (name := last if number == 1 else f'{number}-{last}') in names:
             number += 1
