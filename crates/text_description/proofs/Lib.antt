@@ -1,3 +1,4 @@
 pub mod CoveringLemmas
 pub mod LevelLemmas
 pub mod TextLemmas
+pub mod NoDataLemmas

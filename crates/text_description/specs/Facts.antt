@@ -1,5 +1,5 @@
 -- What the levels and the keys of a file say (GeoTIFF 1.1, OGC 19-008, annex A).
-use Rattle.std.specs.Prelude.{◌≡◌, ◌⊎◌, ℕ, ◌==◌, ◌||◌, Bool, if◌then◌else◌, List, [], ◌∷◌, drop, codes, nat_eq, Option, Some, None, find, option_and_then, option_map, IsSome, ⊤}
+use Rattle.std.specs.Prelude.{◌≡◌, ◌⊎◌, ℕ, ◌==◌, ◌||◌, Bool, if◌then◌else◌, List, drop, codes, nat_eq, Option, Some, None, find, option_and_then, option_map, IsSome}
 use Rattle.std.specs.List.{before_first, starts_with}
 use Rattle.std.specs.Option.{option_or}
 use Rattle.std.specs.Cow.{cow_str_bytes}
