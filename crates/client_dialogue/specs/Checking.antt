@@ -17,9 +17,10 @@ IsCheckOf (Some text) check = check ≡ Some (over (text ∷ []))
 abbrev pub IsAnswered : Status → Type 0
 IsAnswered s = (s.out ≡ []) ⊎ IsSome s.left
 
--- What is to be done next is said, and nothing changes; or bytes are taken. What came of the head says what the check says.
+-- What is to be done next is said, and nothing changes; or bytes are taken. Before a connection is there, bytes are dropped. What came of
+-- the head says what the check says.
 abbrev pub ChecksBy : ClientState → CheckStep → List ℕ → Status → Status → Type 0
-ChecksBy c Connect bytes old new = (new ≡ old) × (bytes ≡ []) × (old.is_open ≡ false) × (0 < length old.out)
+ChecksBy c Connect bytes old new = (new ≡ old) × (old.is_open ≡ false) × (0 < length old.out)
 ChecksBy c Write bytes old new = (new ≡ old) × (bytes ≡ []) × (old.is_open ≡ true) × (0 < length old.waits)
 ChecksBy c Read bytes old new = (new ≡ old) × (bytes ≡ []) × (old.is_open ≡ true) × (old.waits ≡ [])
 ChecksBy c More bytes old new = (part : Part) × Takes part bytes old new

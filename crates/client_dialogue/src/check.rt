@@ -108,18 +108,23 @@ impl Check {
         self.connection.gone();
     }
 
-    /// Takes bytes that came, as many as are of one part, and returns how many, and what is to be done next. Fails without memory: the
-    /// check is over then.
+    /// Takes bytes that came, as many as are of one part, and returns how many, and what is to be done next. Bytes that stand there before
+    /// the check has a connection are of another one, and are dropped. Fails without memory: the check is over then.
     pub fn go_on(&mut self, client: &Client, bytes: &[u8]) -> Result<CheckProgress, Memory>
         ensures few { IfOk result (λ progress. progress.count ≤ length bytes.now) }
+        ensures drops { IfOk result (λ progress. progress.step ≡ CheckStep.Connect → progress.count ≡ length bytes.now) }
         ensures does { IfOk result (λ progress. ChecksBy client.now progress.step (take progress.count bytes.now) self.old self.new) }
         ensures err { OnErr result (self.new ≡ over []) }
     {
         let is_over = !self.connection.is_asked() || self.connection.left().is_some();
+        if !is_over && !self.connection.is_open() {
+            return Ok(CheckProgress {
+                count: bytes.len(),
+                step: CheckStep::Connect,
+            });
+        }
         let step = if is_over {
             CheckStep::Checked(client.current(self.connection.head()))
-        } else if !self.connection.is_open() {
-            CheckStep::Connect
         } else if !self.connection.waiting().is_empty() {
             CheckStep::Write
         } else if bytes.is_empty() {
