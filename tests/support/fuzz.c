@@ -303,7 +303,7 @@ static void check(void) {
     uint32_t wanted = strcmp(driver.tag, tag_of_server()) == 0 ? COG_SAME : COG_OTHER;
     server.left = below(3), server.is_changed = driver.is_lost = false;
     need(delgunsai_client_ask_same(&driver.client) == 1, "nothing is known of a file that was read");
-    line.is_over = true, drop_piece();                                        /* of the connection before */
+    line.is_over = true;                                        /* what it left is handed on, and dropped at CONNECT */
     drive(DELGUNSAI_CHECKED);
     uint32_t kind = driver.step.said.kind;
     line.is_over = true, checks++;
