@@ -302,7 +302,8 @@ int32_t cog_client_current(struct cog_client *client, const uint8_t *answer, siz
 
 /* What a driver is to do next. */
 enum {
-    DELGUNSAI_CONNECT = 1,   /* end the connection, if there is one, make a new one, and call delgunsai_client_connected */
+    DELGUNSAI_CONNECT = 1,   /* end the connection, if there is one, make a new one, and call delgunsai_client_connected. All bytes that
+                              * were handed on are taken: they are of the connection that ended */
     DELGUNSAI_WRITE = 2,     /* write what delgunsai_client_waiting lays, and call delgunsai_client_wrote */
     DELGUNSAI_READ = 3,      /* read bytes, at least one, and hand them on */
     DELGUNSAI_LOOK = 4,      /* see whether bytes are there without waiting for them: hand them on, or call delgunsai_client_silent */

@@ -244,3 +244,16 @@ fn checks_no_client_without_a_revision(rt: HostRuntime) -> Result<(), Fail> {
     expect_eq!(rt; check.is_none(), true);
     Ok(())
 }
+
+/// What stands there when a check begins is of another connection.
+#[test]
+fn drops_what_another_connection_left(rt: HostRuntime) -> Result<(), Fail> {
+    let client = client_with_a_revision(rt.alloc())?;
+    let mut check = Check::new(rt.alloc(), &client)?.ok_or("no revision")?;
+    for left in ["", "H", SAME] {
+        let progress = check.go_on(&client, left.as_bytes())?;
+        expect_eq!(rt; progress.step, CheckStep::Connect);
+        expect_eq!(rt; progress.count, left.len());
+    }
+    Ok(())
+}
