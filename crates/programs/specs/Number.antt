@@ -11,12 +11,12 @@ number_or least greatest default (Some word) = number_from least greatest word
 
 -- the fault names the word, or memory is wanting
 abbrev pub Names : List ℕ → Exit → Type 0
-Names word (NotANumber told) = string_bytes told ≡ word
+Names word (NotANumber told range) = string_bytes told ≡ word
 Names word Memory = ⊤
 Names word fault = ⊥
 
 -- a word is no number, or memory is wanting
 abbrev pub IsOfNumber : Exit → Type 0
-IsOfNumber (NotANumber told) = ⊤
+IsOfNumber (NotANumber told range) = ⊤
 IsOfNumber Memory = ⊤
 IsOfNumber fault = ⊥

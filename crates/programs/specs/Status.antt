@@ -7,8 +7,8 @@ use Rattle.scripts.specs.declared.line.ScriptError.TheVariants as script
 use Rattle.read_command.specs.declared.error.ReadError.{ReadError}
 use Rattle.read_command.specs.declared.error.ReadError.TheVariants as reading
 use Rattle.programs.specs.declared.exit.Exit.{Exit}
-use Rattle.programs.specs.declared.exit.Exit.TheVariants.{NotText, NotAProgram, CommandLine, NotANumber, NotACoordinate, NoRectangle, NoWindow, NoWorld, NotAFile, NotAnOrigin, OneName, NoClock, Script}
-use Rattle.programs.specs.declared.exit.Exit.TheVariants.{RefusedClient, NotAFileUrl, RefusedUrl, NoFieldLine, NotAField, OfFile, Explained, NoReport, NotUsed, CantRead, Refused, CantListen, CantAccept, CantWait, CantWrite, CantWriteFile, Memory, ReaderGone}
+use Rattle.programs.specs.declared.exit.Exit.TheVariants.{NotText, NotAProgram, CommandLine, NotANumber, OutOfRange, NamesNoFile, NotACoordinate, NoRectangle, NoWindow, NoWorld, NotAFile, NotAnOrigin, OneName, NoClock, Script}
+use Rattle.programs.specs.declared.exit.Exit.TheVariants.{RefusedClient, NotAFileUrl, RefusedUrl, NoFieldLine, NotAField, OfFile, Explained, NoReport, NoConnection, NotUsed, CantRead, CantReadBy, Refused, CantListen, CantListenAt, CantAccept, CantWait, CantWrite, CantWriteFile, Memory, ReaderGone}
 
 -- 0 where help or the version is asked for, and 2 where the words aren't the program's
 abbrev pub line_status : ErrorKind → ℕ
@@ -22,7 +22,9 @@ abbrev pub HasStatus : Exit → ℕ → Type 0
 HasStatus NotText n = n ≡ 2
 HasStatus (NotAProgram word) n = n ≡ 2
 HasStatus (CommandLine error) n = n ≡ line_status (kind_of error)
-HasStatus (NotANumber word) n = n ≡ 2
+HasStatus (NotANumber word range) n = n ≡ 2
+HasStatus (OutOfRange word range) n = n ≡ 2
+HasStatus (NamesNoFile word why) n = n ≡ 2
 HasStatus (NotACoordinate word) n = n ≡ 2
 HasStatus NoRectangle n = n ≡ 2
 HasStatus (NoWindow why) n = n ≡ 2
@@ -38,14 +40,17 @@ HasStatus (NotAField name error) n = n ≡ 2
 HasStatus (OfFile fault) n = n ≡ 3
 HasStatus (Explained fault) n = n ≡ 3
 HasStatus NoReport n = n ≡ 4
+HasStatus (NoConnection error) n = n ≡ 4
 HasStatus (NotUsed why) n = n ≡ 4
 HasStatus (Script (script.NotAnEvent line)) n = n ≡ 2
 HasStatus (Script (script.CantRead line)) n = n ≡ 1
 HasStatus (Script script.Memory) n = n ≡ 1
 HasStatus (CantRead path) n = n ≡ 1
+HasStatus (CantReadBy path why) n = n ≡ 1
 HasStatus (Refused refusal name) n = n ≡ 1
 HasStatus NoClock n = n ≡ 1
 HasStatus CantListen n = n ≡ 1
+HasStatus (CantListenAt place error) n = n ≡ 1
 HasStatus CantAccept n = n ≡ 1
 HasStatus CantWait n = n ≡ 1
 HasStatus CantWrite n = n ≡ 1

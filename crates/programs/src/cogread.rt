@@ -10,8 +10,8 @@ use crate::clients::{client_of, client_of_url};
 use crate::exit::Exit;
 use crate::headers::add_headers;
 use crate::local;
-use crate::local::{is_plain_file, server_of_file, source_of};
-use crate::number::{number, number_or};
+use crate::local::{check_server, is_plain_file, server_of_file, source_of};
+use crate::number::{number, number_or, with_range};
 use crate::world_file::world_path;
 use client_sockets::Socket;
 use cog_client::{Client, Pieces, Query};
@@ -52,8 +52,8 @@ fn pick<R: AllocGlobal>(rt: &R, words: &WindowWords<'_>) -> Result<Pick, Exit>
     ensures kinds { IfErr result IsOfNumber }
 {
     match words.columns {
-        Some(columns) => Ok(Pick::Columns(number(rt, columns, 0, u32::MAX)?)),
-        None => Ok(Pick::Level(number_or(rt, words.level, 0, u32::MAX, 0)?)),
+        Some(columns) => Ok(Pick::Columns(number(rt, "--columns", columns, 0, u32::MAX)?)),
+        None => Ok(Pick::Level(number_or(rt, "--level", words.level, 0, u32::MAX, 0)?)),
     }
 }
 
@@ -63,10 +63,10 @@ fn window<R: AllocGlobal>(rt: &R, words: &WindowWords<'_>) -> Result<Query, Exit
     ensures kinds { IfErr result IsOfNumber }
 {
     Ok(Query::Window {
-        x: number(rt, words.x, 0, u32::MAX)?,
-        y: number(rt, words.y, 0, u32::MAX)?,
-        w: number(rt, words.w, 0, u32::MAX)?,
-        h: number(rt, words.h, 0, u32::MAX)?,
+        x: number(rt, "X", words.x, 0, u32::MAX)?,
+        y: number(rt, "Y", words.y, 0, u32::MAX)?,
+        w: number(rt, "W", words.w, 0, u32::MAX)?,
+        h: number(rt, "H", words.h, 0, u32::MAX)?,
         pick: pick(rt, words)?,
     })
 }
@@ -107,12 +107,12 @@ fn asked<R: AllocGlobal>(rt: &R, words: AskedWords<'_>, has_world: bool) -> Resu
         AskedWords::Window(words) => Ok(asked_window(window(rt, &words)?, has_world)),
         AskedWords::Whole { level } => Ok(Asked::Part(Part {
             area: Area::Whole,
-            level: number_or(rt, level, 0, u32::MAX, 0)?,
+            level: number_or(rt, "--level", level, 0, u32::MAX, 0)?,
             has_world,
         })),
         AskedWords::Bounds(words) => Ok(Asked::Part(Part {
             area: Area::Bounds(bounds(rt, &words)?),
-            level: number_or(rt, words.level, 0, u32::MAX, 0)?,
+            level: number_or(rt, "--level", words.level, 0, u32::MAX, 0)?,
             has_world,
         })),
     }
@@ -128,9 +128,9 @@ fn numbers_of<R: AllocGlobal>(rt: &R, line: &ReadLine<'_>) -> Result<Numbers, Ex
 {
     Ok(Numbers {
         asked: asked(rt, line.asked, line.world)?,
-        requests: number_or(rt, line.requests, 1, 65_536, 64)?,
-        blocks: number_or(rt, line.blocks, MIN_CAPACITY, MAX_CAPACITY, 256)?,
-        ahead: number_or(rt, line.ahead, 0, 64, 0)?,
+        requests: number_or(rt, "--requests", line.requests, 1, 65_536, 64)?,
+        blocks: number_or(rt, "--blocks", line.blocks, MIN_CAPACITY, MAX_CAPACITY, 256)?,
+        ahead: number_or(rt, "--ahead", line.ahead, 0, 64, 0)?,
     })
 }
 
@@ -150,7 +150,7 @@ fn text_of_line<'c, R>(
     numbers: Numbers,
     client: &'c mut Client,
     is_url: bool,
-) -> Result<Text<'c>, ReadError>
+) -> Result<Text<'c>, Exit>
 where
     R: Clock + Eprint + AllocGlobal + Net<Stream = TcpStream>,
 {
@@ -161,7 +161,19 @@ where
         client.keep_open();
         socket.keep_open();
     }
-    text_of_source(rt, &net, line, numbers, client, socket, is_url)
+    match text_of_source(rt, &net, line, numbers, client, socket, is_url) {
+        Ok(text) => Ok(text),
+        Err(ReadError::NoReport) if is_url => Err(no_report(net.refusal())),
+        Err(error) => Err(Exit::from(error)),
+    }
+}
+
+/// Returns the fault where no report stands after all requests. `refusal` is why the last connection wasn't made, if it wasn't.
+fn no_report(refusal: Option<io::Error>) -> Exit {
+    match refusal {
+        Some(error) => Exit::NoConnection(error),
+        None => Exit::NoReport,
+    }
 }
 
 /// Returns what a line asks for, read over a source of answers. With `is_url` a URL or a path of the disk names the file.
@@ -253,11 +265,11 @@ fn run_local<R>(rt: &R, line: &ReadLine<'_>, headers: &[&str], path: &str) -> Re
 where
     R: Files + Clock + Print + Eprint + AllocGlobal + Net<Stream = TcpStream>,
 {
-    let numbers = numbers_of(rt, line)?;
+    let numbers = with_range(numbers_of(rt, line))?;
     let mut client = client_of(rt, line, numbers.blocks)?;
     add_headers(rt, &mut client, headers)?;
     let ended = read_local(rt, line, numbers, &mut client, path);
-    explained(ended, &client)
+    explained(rt, ended, &client)
 }
 
 /// Reads what a line asks for from the file of the disk at `path`, with the client of that file, and writes it.
@@ -358,22 +370,26 @@ where
     let named = words_instead(rt.alloc(), words, index, &asked.words)?;
     let read = read_line_with_headers(rt.alloc(), &named)?;
     let line = line_of_url(read.line);
-    let numbers = numbers_of(rt, &line)?;
+    let numbers = with_range(numbers_of(rt, &line))?;
     let mut client = client_of_url(rt, word, asked.url, numbers.blocks)?;
     let ended = run_read(rt, &line, &read.headers, numbers, &mut client, true);
-    explained(ended, &client)
+    explained(rt, ended, &client)
 }
 
 /// Has the fault of a file explained, as where a URL or a path of the disk names it: by a value that the client's bytes of the file have.
-fn explained(ended: Result<(), Exit>, client: &Client) -> Result<(), Exit> {
+fn explained<R: AllocGlobal>(rt: &R, ended: Result<(), Exit>, client: &Client) -> Result<(), Exit> {
     match ended {
-        Err(Exit::OfFile(fault)) => Err(Exit::Explained(ExplainedFault::of(fault, client))),
+        Err(Exit::OfFile(fault)) => {
+            let levels = client.levels().unwrap_or(&[]);
+            let explained = ExplainedFault::of(rt.alloc(), fault, client, levels)?;
+            Err(Exit::Explained(explained))
+        }
         ended => ended,
     }
 }
 
-/// Runs the program on words of which the one at `index` is a URL, or the path of a file of the disk. It stands for a server and a name. A
-/// word that is neither is refused as the other forms refuse it.
+/// Runs the program on words of which the one at `index` is a URL, or the path of a file of the disk. It stands for a server and a name.
+/// Fails with `NamesNoFile` where it is neither, and no server. After a server a word is missing, which is refused as in other forms.
 fn run_single<R>(rt: &R, words: &[&str], index: usize) -> Result<(), Exit>
 where
     R: Files + Clock + Print + Eprint + AllocGlobal + Net<Stream = TcpStream>,
@@ -389,6 +405,7 @@ where
         let line = line_of_path(read.line);
         return run_local(rt, &line, &read.headers, words[index]);
     }
+    check_server(rt, words[index])?;
     run_named(rt, words)
 }
 

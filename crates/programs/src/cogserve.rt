@@ -133,7 +133,7 @@ fn server_of<R: AllocGlobal>(rt: &R, line: &ServeLine<'_>) -> Result<Server, Exi
     ensures told { IfErr result (Names line.now.epoch.now) }
     ensures kinds { IfErr result IsOfNumber }
 {
-    let epoch = number(rt, line.epoch, 0, u32::MAX)?;
+    let epoch = number(rt, "--epoch", line.epoch, 0, u32::MAX)?;
     Ok(Server::new(rt.alloc(), epoch))
 }
 
@@ -153,9 +153,9 @@ pub(crate) fn limits_of<R: AllocGlobal>(
     ensures err { OnErr result (HasNoLimit connections.now (option_copied at_once.entry) (option_copied patience.entry)) }
     ensures kinds { IfErr result IsOfNumber }
 {
-    let connections = number(rt, connections, 1, u32::MAX)?;
-    let at_once = number_or(rt, at_once, 1, 10_000, 256)?;
-    let patience = number_or(rt, patience, 1, 3_600, 60)?;
+    let connections = number(rt, "--connections", connections, 1, u32::MAX)?;
+    let at_once = number_or(rt, "--at-once", at_once, 1, 10_000, 256)?;
+    let patience = number_or(rt, "--patience", patience, 1, 3_600, 60)?;
     Ok(Limits {
         connections,
         at_once: NonZeroUsize::new(at_once as usize).unwrap_or(NonZeroUsize::MIN),
@@ -180,7 +180,7 @@ pub(crate) fn verify_of<R: AllocGlobal>(rt: &R, word: Option<&str>) -> Result<u3
     ensures err { OnErr result (verify_number (option_copied word.entry) ≡ None) }
     ensures kinds { IfErr result IsOfNumber }
 {
-    number_or(rt, word, 1, 86_400, 0)
+    number_or(rt, "--verify", word, 1, 86_400, 0)
 }
 
 /// Makes the file that a word names as `NAME=PATH`, cut at the first `=`. Fails with `NotAFile`, or with `Memory`.

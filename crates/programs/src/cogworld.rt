@@ -84,7 +84,7 @@ pub fn run_stored<R: Print + AllocGlobal>(rt: &R) -> Result<(), Exit> {
 pub fn run_line<R: Files + Print + AllocGlobal>(rt: &R, words: &[&str]) -> Result<(), Exit> {
     let line = world_line(rt.alloc(), words)?;
     let piece = match line.pieces {
-        Some(word) => Some(number(rt, word, 1, MOST_BYTES)?),
+        Some(word) => Some(number(rt, "--pieces", word, 1, MOST_BYTES)?),
         None => None,
     };
     run_file(rt, line.script, piece)

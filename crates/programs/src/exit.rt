@@ -1,4 +1,5 @@
 //! Why a program ends early.
+use crate::number::NumberRange;
 use clap::error::ErrorKind;
 use cog_client::{ClientError, FieldError, UrlError, Why};
 use cog_server::PublishError;
@@ -23,7 +24,9 @@ pub enum Exit {
     /// The words of the command line aren't the program's, or ask for help.
     CommandLine(clap::Error),
     /// A word of the command line isn't a number of its range.
-    NotANumber(String),
+    NotANumber(String, NumberRange),
+    /// A word of the command line isn't a number of its range, which the line has, too.
+    OutOfRange(String, NumberRange),
     /// A word of a rectangle isn't a finite number.
     NotACoordinate(String),
     /// The west side of a rectangle is greater than the east side, or the south side than the north side.
@@ -48,6 +51,10 @@ pub enum Exit {
     Script(ScriptError),
     /// The file at this path can't be read.
     CantRead(String),
+    /// The file at this path can't be read, for this reason.
+    CantReadBy(String, NotRead),
+    /// This word names no file to read, for this reason.
+    NamesNoFile(String, NotRead),
     /// The file of this name isn't published.
     Refused(PublishError, String),
     /// No client of the host and name is made.
@@ -62,10 +69,14 @@ pub enum Exit {
     Explained(ExplainedFault),
     /// No report stands after all requests.
     NoReport,
+    /// No report stands after all requests to a URL, and the last connection wasn't made, for this reason.
+    NoConnection(io::Error),
     /// The first answer to a URL isn't used for this reason, and no later one is expected to be.
     NotUsed(Why),
     /// The address can't be bound.
     CantListen,
+    /// This address can't be bound, for this reason.
+    CantListenAt(String, io::Error),
     /// No connection can be accepted any more.
     CantAccept,
     /// Connections can't be waited for any more.
@@ -78,6 +89,27 @@ pub enum Exit {
     CantWriteFile(String),
     /// No memory was left.
     Memory,
+}
+
+/// Says why a file isn't read.
+#[derive(Drop)]
+pub enum NotRead {
+    /// The system says why.
+    Io(io::Error),
+    /// It isn't a plain file: a folder, say.
+    NotPlain,
+    /// It is a URL of another scheme than http.
+    Scheme,
+}
+
+impl fmt::Display for NotRead {
+    fn fmt<W: fmt::Write>(&self, f: &mut fmt::Formatter<W>) -> fmt::Result {
+        match self {
+            NotRead::Io(error) => write!(f, "{error}"),
+            NotRead::NotPlain => f.write_str("it isn't a plain file"),
+            NotRead::Scheme => f.write_str("it isn't a URL of http"),
+        }
+    }
 }
 
 impl Exit {
@@ -94,7 +126,9 @@ impl Exit {
             Exit::NotText
             | Exit::NotAProgram(_)
             | Exit::CommandLine(_)
-            | Exit::NotANumber(_)
+            | Exit::NotANumber(_, _)
+            | Exit::OutOfRange(_, _)
+            | Exit::NamesNoFile(_, _)
             | Exit::NotACoordinate(_)
             | Exit::NoRectangle
             | Exit::NoWindow(_)
@@ -110,12 +144,14 @@ impl Exit {
             | Exit::Script(ScriptError::NotAnEvent(_)) => 2,
             Exit::OfFile(_) => 3,
             Exit::Explained(_) => 3,
-            Exit::NoReport | Exit::NotUsed(_) => 4,
+            Exit::NoReport | Exit::NoConnection(_) | Exit::NotUsed(_) => 4,
             Exit::Script(_)
             | Exit::CantRead(_)
+            | Exit::CantReadBy(_, _)
             | Exit::Refused(_, _)
             | Exit::NoClock
             | Exit::CantListen
+            | Exit::CantListenAt(_, _)
             | Exit::CantAccept
             | Exit::CantWait
             | Exit::CantWrite
@@ -175,7 +211,10 @@ impl fmt::Display for ExitLine<'_> {
             Exit::NotText => write!(f, "{program}: a word isn't text"),
             Exit::NotAProgram(word) => write!(f, "{program}: not a program: {word}"),
             Exit::CommandLine(error) => write!(f, "{error}"),
-            Exit::NotANumber(word) => write!(f, "{program}: not a number: {word}"),
+            Exit::NotANumber(word, _) => write!(f, "{program}: not a number: {word}"),
+            Exit::OutOfRange(word, range) => {
+                write!(f, "{program}: not a number: {word}. Give {range}")
+            }
             Exit::NotACoordinate(word) => write!(
                 f,
                 "{program}: not a number: {word}. Give --bounds W S E N: four numbers in the file's own coordinates"
@@ -202,6 +241,11 @@ impl fmt::Display for ExitLine<'_> {
             ),
             Exit::NoClock => write!(f, "{program}: no clock: give --epoch N"),
             Exit::CantRead(path) => write!(f, "{program}: can't read {path}"),
+            Exit::CantReadBy(path, why) => write!(f, "{program}: can't read {path}: {why}"),
+            Exit::NamesNoFile(word, why) => write!(
+                f,
+                "{program}: can't read {word}: {why}. Give http://HOST/PATH, the path of a file, or SERVER NAME"
+            ),
             Exit::Refused(refusal, name) => {
                 write!(f, "{program}: refused {} {name}", refusal.number())
             }
@@ -214,8 +258,15 @@ impl fmt::Display for ExitLine<'_> {
             },
             Exit::Explained(fault) => write!(f, "{program}: {fault}"),
             Exit::NoReport => write!(f, "{program}: no report"),
+            Exit::NoConnection(error) => {
+                write!(f, "{program}: no report: no connection: {error}")
+            }
             Exit::NotUsed(why) => write!(f, "{program}: no report: {}", WhySentence(*why)),
             Exit::CantListen => write!(f, "{program}: can't listen"),
+            Exit::CantListenAt(place, error) => write!(
+                f,
+                "{program}: can't listen at {place}: {error}. Give --listen HOST:PORT, as 127.0.0.1:8080"
+            ),
             Exit::CantAccept => write!(f, "{program}: can't accept"),
             Exit::CantWait => write!(f, "{program}: can't wait"),
             Exit::CantWrite | Exit::ReaderGone => write!(f, "{program}: can't write"),

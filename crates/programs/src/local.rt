@@ -2,7 +2,7 @@
 ghost use Rattle.std.specs.Prelude.{◌≡◌, [], codes};
 ghost use Rattle.transports.specs.Transports.{rest_of, served_name, served_state, source_of as source_within};
 
-use crate::exit::Exit;
+use crate::exit::{Exit, NotRead};
 use cog_server::{PublishError, Server};
 use disk_files::read_file;
 use std::alloc::{AllocError, Global};
@@ -27,6 +27,41 @@ pub fn is_plain_file<R: Files>(rt: &R, path: &str) -> bool {
     }
 }
 
+/// Returns whether a word has the form of a server, `HOST:PORT`, and not that of a path or a URL.
+fn is_server(word: &str) -> bool {
+    match word.rsplit_once(':') {
+        Some((host, port)) => {
+            !host.contains('/')
+                && !port.is_empty()
+                && port.bytes().all(|byte| byte.is_ascii_digit())
+        }
+        None => false,
+    }
+}
+
+/// Returns why a word that isn't the path of a plain file names no file to read. Returns `None` where it may be a server, so that a word is
+/// missing.
+fn why_unread<R: Files>(rt: &R, word: &str) -> Option<NotRead> {
+    if is_server(word) {
+        return None;
+    }
+    if word.contains("://") || word.starts_with("/vsi") {
+        return Some(NotRead::Scheme);
+    }
+    match fs::metadata(rt, word) {
+        Ok(_) => Some(NotRead::NotPlain),
+        Err(error) => Some(NotRead::Io(error)),
+    }
+}
+
+/// Fails with `NamesNoFile` where a word, which isn't the path of a plain file, can't be a server, either.
+pub fn check_server<R: Files + AllocGlobal>(rt: &R, word: &str) -> Result<(), Exit> {
+    match why_unread(rt, word) {
+        Some(why) => Err(Exit::NamesNoFile(String::from_str(rt.alloc(), word)?, why)),
+        None => Ok(()),
+    }
+}
+
 /// Returns the fault for a path whose file the server refuses.
 fn refused<R: AllocGlobal>(rt: &R, refusal: PublishError, path: &str) -> Result<Exit, AllocError> {
     match refusal {
@@ -41,7 +76,10 @@ pub fn server_of_file<R: Files + AllocGlobal>(rt: &R, path: &str) -> Result<Serv
     let bytes = match read_file(rt, path) {
         Ok(bytes) => bytes,
         Err(error) if error.kind() == io::ErrorKind::OutOfMemory => return Err(Exit::Memory),
-        Err(_) => return Err(Exit::CantRead(String::from_str(rt.alloc(), path)?)),
+        Err(error) => {
+            let path = String::from_str(rt.alloc(), path)?;
+            return Err(Exit::CantReadBy(path, NotRead::Io(error)));
+        }
     };
     match server_of_one(rt.alloc(), EPOCH, NAME.as_bytes(), bytes) {
         Ok(server) => Ok(server),

@@ -6,9 +6,40 @@ ghost use Rattle.programs.specs.Number.{IsOfNumber, Names, number_or};
 
 use crate::exit::Exit;
 use command_lines::number_from;
+use std::fmt;
 
-/// Returns the number that a word writes, from `least` to `greatest`. Fails with `NotANumber`, or with `Memory`.
-pub fn number<R: AllocGlobal>(rt: &R, word: &str, least: u32, greatest: u32) -> Result<u32, Exit>
+/// Holds the range of a number of a command line, and the option or the place that has it.
+#[derive(Clone, Copy, Debug, PartialEq, Eq)]
+pub struct NumberRange {
+    pub name: &'static str,
+    pub least: u32,
+    pub greatest: u32,
+}
+
+impl fmt::Display for NumberRange {
+    fn fmt<W: fmt::Write>(&self, f: &mut fmt::Formatter<W>) -> fmt::Result {
+        let (name, least, greatest) = (self.name, self.least, self.greatest);
+        write!(f, "{name} a number from {least} to {greatest}")
+    }
+}
+
+/// Has a word that is no number reported with its range, as where a URL, a path or files alone stand in a line.
+pub fn with_range<T>(made: Result<T, Exit>) -> Result<T, Exit> {
+    match made {
+        Err(Exit::NotANumber(word, range)) => Err(Exit::OutOfRange(word, range)),
+        made => made,
+    }
+}
+
+/// Returns the number that a word writes, from `least` to `greatest`. `name` is the option or the place that the word has. Fails with
+/// `NotANumber`, or with `Memory`.
+pub fn number<R: AllocGlobal>(
+    rt: &R,
+    name: &'static str,
+    word: &str,
+    least: u32,
+    greatest: u32,
+) -> Result<u32, Exit>
     ensures ok { IfOk result (λ n. number_from least greatest word.now ≡ Some n) }
     ensures err { OnErr result (number_from least greatest word.now ≡ None) }
     ensures told { IfErr result (Names word.now) }
@@ -17,7 +48,14 @@ pub fn number<R: AllocGlobal>(rt: &R, word: &str, least: u32, greatest: u32) -> 
 {
     match number_from(word, least, greatest) {
         Some(n) => Ok(n),
-        None => Err(Exit::NotANumber(String::from_str(rt.alloc(), word)?)),
+        None => {
+            let range = NumberRange {
+                name,
+                least,
+                greatest,
+            };
+            Err(Exit::NotANumber(String::from_str(rt.alloc(), word)?, range))
+        }
     }
 }
 
@@ -25,6 +63,7 @@ pub fn number<R: AllocGlobal>(rt: &R, word: &str, least: u32, greatest: u32) -> 
 /// `NotANumber`, or with `Memory`.
 pub fn number_or<R: AllocGlobal>(
     rt: &R,
+    name: &'static str,
     word: Option<&str>,
     least: u32,
     greatest: u32,
@@ -37,7 +76,7 @@ pub fn number_or<R: AllocGlobal>(
     ensures low { IfOk result (λ n. least ≤ n ⊎ (n ≡ default)) }
 {
     match word {
-        Some(word) => number(rt, word, least, greatest),
+        Some(word) => number(rt, name, word, least, greatest),
         None => Ok(default),
     }
 }

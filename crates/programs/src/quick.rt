@@ -7,15 +7,16 @@ ghost use Rattle.programs.specs.Number.{IsOfNumber};
 ghost use Rattle.programs.specs.Words.{IsGiven};
 
 use crate::cogserve::{ended, limits_of, millis_of, verify_of};
-use crate::exit::Exit;
-use crate::number::number;
+use crate::exit::{Exit, NotRead};
+use crate::number::{number, with_range};
 use crate::origin::additions_of;
 use cog_server::{Additions, Server};
 use command_lines::{NamedFile, QuickLine, named_files, two_of_one_name};
-use disk_files::Watched;
+use disk_files::{WatchError, Watched};
 use server_files::{AccessLog, ServeFilesError, listen, publish_all, serve_connections};
 use server_sockets::Limits;
 use std::alloc::{AllocError, Global};
+use std::io;
 use std::net::{Net, TcpListener, TcpStream};
 use std::rt::{Clock, Files};
 
@@ -36,10 +37,10 @@ where
         + AllocGlobal
         + Net<Listener = TcpListener, Stream = TcpStream>,
 {
-    let given = given_epoch(rt, line.epoch)?;
+    let given = with_range(given_epoch(rt, line.epoch))?;
     let connections = line.connections.unwrap_or(CONNECTIONS);
-    let limits = limits_of(rt, connections, line.at_once, line.patience)?;
-    let verify = millis_of(verify_of(rt, line.verify)?);
+    let limits = with_range(limits_of(rt, connections, line.at_once, line.patience))?;
+    let verify = millis_of(with_range(verify_of(rt, line.verify))?);
     let additions = additions_of(rt, line.allow_origin, true)?;
     let named = named_files(rt.alloc(), &line.files)?;
     check_names(rt.alloc(), &named)?;
@@ -48,8 +49,9 @@ where
         rt,
         is_kept: line.log,
     };
-    let listening = listen(&log, line.listen.unwrap_or(PLACE));
-    let listener = ended(&log, listening)?;
+    let place = line.listen.unwrap_or(PLACE);
+    let listening = listen(&log, place);
+    let listener = with_reason(&log, place, listening)?;
     let mut server = Server::new(rt.alloc(), epoch_of(rt, given)?);
     let served = serve(
         &mut log,
@@ -59,7 +61,54 @@ where
         limits,
         additions,
     );
-    ended(&log, served)
+    with_reason(&log, place, served)
+}
+
+/// Returns why the file isn't read that `error` is about, or `None` where it is about none, or the server refuses the file.
+fn read_reason(error: &ServeFilesError<'_>) -> Option<NotRead> {
+    match error {
+        ServeFilesError::NotPublished(file) => match &file.why {
+            WatchError::CantRead(error) => Some(NotRead::Io(*error)),
+            WatchError::NotAFile => Some(NotRead::NotPlain),
+            WatchError::Refused(_) => None,
+        },
+        _ => None,
+    }
+}
+
+/// Returns why the server can't listen, or `None` for another error.
+fn listen_reason(error: &ServeFilesError<'_>) -> Option<io::Error> {
+    match error {
+        ServeFilesError::CantListen(error) => Some(*error),
+        _ => None,
+    }
+}
+
+/// Returns the value of `outcome`. Where it is an error, which ends the program, logs it and fails with its fault. The fault says why a
+/// file isn't read, and why the server can't listen at `place`.
+fn with_reason<R: Clock + Eprint + AllocGlobal, T: Drop>(
+    log: &AccessLog<'_, R>,
+    place: &str,
+    outcome: Result<T, ServeFilesError<'_>>,
+) -> Result<T, Exit> {
+    let (read, listened) = match &outcome {
+        Ok(_) => (None, None),
+        Err(error) => (read_reason(error), listen_reason(error)),
+    };
+    match ended(log, outcome) {
+        Err(Exit::CantRead(path)) => match read {
+            Some(why) => Err(Exit::CantReadBy(path, why)),
+            None => Err(Exit::CantRead(path)),
+        },
+        Err(Exit::CantListen) => match listened {
+            Some(error) => {
+                let place = String::from_str(log.rt.alloc(), place)?;
+                Err(Exit::CantListenAt(place, error))
+            }
+            None => Err(Exit::CantListen),
+        },
+        ended => ended,
+    }
 }
 
 /// Publishes the files, prints their URLs, and serves them.
@@ -105,7 +154,7 @@ fn given_epoch<R: AllocGlobal>(rt: &R, word: Option<&str>) -> Result<Option<u32>
     ensures kinds { IfErr result IsOfNumber }
 {
     match word {
-        Some(word) => Ok(Some(number(rt, word, 0, u32::MAX)?)),
+        Some(word) => Ok(Some(number(rt, "--epoch", word, 0, u32::MAX)?)),
         None => Ok(None),
     }
 }

@@ -1,11 +1,13 @@
 //! Sentences on what is wrong with a file.
-ghost use Rattle.std.specs.Prelude.{◌≡◌, IfSome, List, ℕ};
+ghost use Rattle.std.specs.Prelude.{◌≡◌, IfOk, IfSome, List, ℕ};
 ghost use Rattle.text_report.specs.Found.{IsFoundIn};
 
 use crate::found::{found_value, value_name};
 use known_fields::KnownBytes;
+use std::alloc::{AllocError, Global};
 use std::fmt;
-use tiff_dir::{FileFault, tags};
+use tiff_dir::limits::MAX_WINDOW_SAMPLES;
+use tiff_dir::{FileFault, Level, tags};
 
 /// Prints a fault of a file as a sentence without a full stop.
 #[derive(Clone, Copy, Debug, PartialEq, Eq)]
@@ -167,25 +169,39 @@ impl fmt::Display for WayOut {
     }
 }
 
-/// Holds a fault of a file, and the value that was found where the file has one that isn't read.
-#[derive(Clone, Copy, Debug, PartialEq, Eq)]
+/// Holds a fault of a file, and what is known of the file that explains it.
+#[derive(Debug, Drop)]
 pub struct ExplainedFault {
     pub fault: FileFault,
     /// A value of the field that the fault is about, which isn't read.
     pub found: Option<u64>,
+    /// The levels of the file, as far as they are known.
+    pub levels: Vec<Level>,
 }
 
 impl ExplainedFault {
-    /// Returns the fault with the value that the known bytes of the file have, where the fault is of a value.
-    pub fn of<B: KnownBytes>(fault: FileFault, bytes: &B) -> ExplainedFault
-        ensures fault { result.fault ≡ fault }
-        ensures found { IfSome result.found (λ v. (f : List ℕ) → B.is_of bytes.now f → IsFoundIn f fault v) }
+    /// Returns the fault with the value that the known bytes of the file have, where the fault is of a value. `levels` are those of the
+    /// file. Fails where no memory is left.
+    pub fn of<B: KnownBytes>(
+        alloc: Global,
+        fault: FileFault,
+        bytes: &B,
+        levels: &[Level],
+    ) -> Result<ExplainedFault, AllocError>
+        ensures fault { IfOk result (λ explained. explained.fault ≡ fault) }
+        ensures found { IfOk result (λ explained. IfSome explained.found
+            (λ v. (f : List ℕ) → B.is_of bytes.now f → IsFoundIn f fault v)) }
+        ensures levels { IfOk result (λ explained. explained.levels.items ≡ levels.now) }
     {
         let found = match fault {
             FileFault::Unsupported(tag) => found_value(bytes, tag),
             _ => None,
         };
-        ExplainedFault { fault, found }
+        Ok(ExplainedFault {
+            fault,
+            found,
+            levels: Vec::from_slice(alloc, levels)?,
+        })
     }
 }
 
@@ -204,6 +220,58 @@ impl fmt::Display for FoundSentence {
     }
 }
 
+/// Prints the sides of each level.
+#[derive(Clone, Copy)]
+struct SidesOfLevels<'a>(&'a [Level]);
+
+impl fmt::Display for SidesOfLevels<'_> {
+    fn fmt<W: fmt::Write>(&self, f: &mut fmt::Formatter<W>) -> fmt::Result {
+        for (number, level) in self.0.iter().enumerate() {
+            if number > 0 {
+                f.write_str(", ")?;
+            }
+            let (columns, rows) = (level.width, level.length);
+            write!(f, "level {number} has {columns} columns and {rows} rows")?;
+        }
+        Ok(())
+    }
+}
+
+/// Returns how many samples the whole of a level has.
+fn samples_of(level: &Level) -> u64 {
+    u64::from(level.width)
+        .saturating_mul(u64::from(level.length))
+        .saturating_mul(u64::from(level.samples))
+}
+
+/// Returns the number of the largest level of which one window may have the whole, or `None` where there is none.
+fn whole_level(levels: &[Level]) -> Option<usize> {
+    levels
+        .iter()
+        .position(|level| samples_of(level) <= MAX_WINDOW_SAMPLES)
+}
+
+impl ExplainedFault {
+    /// Prints what helps against the fault.
+    fn print_way<W: fmt::Write>(&self, f: &mut fmt::Formatter<W>) -> fmt::Result {
+        match self.fault {
+            FileFault::Outside if !self.levels.is_empty() => {
+                write!(f, "Ask inside a level: {}", SidesOfLevels(&self.levels))
+            }
+            FileFault::TooLarge => match whole_level(&self.levels) {
+                Some(number) => {
+                    write!(
+                        f,
+                        "Ask for less: --level {number} is the largest that fits whole"
+                    )
+                }
+                None => write!(f, "{}", WayOut(self.fault)),
+            },
+            fault => write!(f, "{}", WayOut(fault)),
+        }
+    }
+}
+
 /// Prints the fault as one line: its number, the tag of its field if it is about one, its sentence, and what helps against it.
 impl fmt::Display for ExplainedFault {
     fn fmt<W: fmt::Write>(&self, f: &mut fmt::Formatter<W>) -> fmt::Result {
@@ -214,10 +282,10 @@ impl fmt::Display for ExplainedFault {
         }
         match (fault, self.found) {
             (FileFault::Unsupported(tag), Some(value)) => {
-                write!(f, ": {}", FoundSentence(tag, value))?;
+                write!(f, ": {}. ", FoundSentence(tag, value))?;
             }
-            _ => write!(f, ": {}", FaultSentence(fault))?,
+            _ => write!(f, ": {}. ", FaultSentence(fault))?,
         }
-        write!(f, ". {}", WayOut(fault))
+        self.print_way(f)
     }
 }

@@ -181,7 +181,14 @@ fn tells_what_helps(rt: HostRuntime) -> Result<(), Fail> {
 #[test]
 fn explains_faults(rt: HostRuntime) -> Result<(), Fail> {
     for (fault, found, want) in EXPLAINED {
-        let told = format!(in rt.alloc(); "{}", ExplainedFault { fault, found })?;
+        let told = format!(in rt.alloc();
+            "{}",
+            ExplainedFault {
+                fault,
+                found,
+                levels: Vec::new(rt.alloc())
+            }
+        )?;
         assert_eq!(rt; told.as_str(), want);
     }
     Ok(())
@@ -196,9 +203,9 @@ fn finds_the_value_that_is_not_read(rt: HostRuntime) -> Result<(), Fail> {
         file[54] = compression;
         let bytes = WholeFile(&file);
         expect_eq!(rt; found_value(&bytes, 259), found);
-        let explained = ExplainedFault::of(FileFault::Unsupported(259), &bytes);
+        let explained = ExplainedFault::of(rt.alloc(), FileFault::Unsupported(259), &bytes, &[])?;
         expect_eq!(rt; explained.found, found);
-        let explained = ExplainedFault::of(FileFault::Missing(259), &bytes);
+        let explained = ExplainedFault::of(rt.alloc(), FileFault::Missing(259), &bytes, &[])?;
         expect_eq!(rt; explained.found, None);
     }
     Ok(())
