@@ -2,6 +2,7 @@
 ghost use Rattle.std.specs.Prelude.{◌≡◌, ◌≤◌, [], false, true, IfOk, OnErr, OnOk, length, take};
 ghost use Rattle.client_connection.specs.Status.{over};
 ghost use Rattle.client_dialogue.specs.Goes.{BeginsAnew, Fails, Goes, MakesNone, Says, rounds_of};
+ghost use Rattle.client_dialogue.specs.declared.step.Step.TheVariants.{Connect};
 
 mod answering;
 mod asking;
@@ -151,11 +152,12 @@ impl Dialogue {
     }
 
     /// Takes bytes that came, as many as are of one part, and returns how many, and what is to be done next. Bytes that nothing asked for
-    /// end the connection, and are dropped with it.
+    /// end the connection, and are dropped with it. Bytes that stand there before there is a connection are of another one, and are dropped.
     ///
     /// Fails without memory. The exchange that was under way is over then, and so is its connection. What of its answer was taken stays.
     pub fn go_on(&mut self, client: &mut Client, bytes: &[u8]) -> Result<Progress, Memory>
         ensures few { IfOk result (λ progress. progress.count ≤ length bytes.now) }
+        ensures drops { IfOk result (λ progress. progress.step ≡ Connect → progress.count ≡ length bytes.now) }
         ensures goes { IfOk result (λ progress.
             Goes (rounds_of progress.step) (take progress.count bytes.now) self.old client.old self.new client.new) }
         ensures says { IfOk result (λ progress. Says progress.step self.new client.new) }

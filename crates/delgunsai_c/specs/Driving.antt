@@ -50,9 +50,9 @@ abbrev pub Drives : (Held → Held → Type 0) → Option Held → Option Held �
 Drives does old new told = ((h : Held) × (k : Held) × (old ≡ Some h) × (new ≡ Some k) × does h k)
     ⊎ ((old ≡ None) × (new ≡ None) × (told ≡ code_of NoClient))
 
--- The exchanges went on so, and no check is under way.
+-- The exchanges went on so, and no check is under way. Where a connection is to be made, all bytes are taken: they are of another one.
 abbrev pub GoesOn : (bytes : List ℕ) (n : ℕ) (step : Step) → Held → Held → Type 0
-GoesOn bytes n step h k = (n ≤ length bytes) × Goes (rounds_of step) (take n bytes) h.dialogue h.client k.dialogue k.client
+GoesOn bytes n step h k = (n ≤ length bytes) × (step ≡ Connect → n ≡ length bytes) × Goes (rounds_of step) (take n bytes) h.dialogue h.client k.dialogue k.client
     × Says step k.dialogue k.client × (k.check ≡ None)
 
 -- after a step of a check nothing of it is left where it is over
@@ -60,9 +60,9 @@ abbrev pub check_after : CheckStep → Status → Option Status
 check_after (check.Checked current) s = None
 check_after step s = Some s
 
--- The check went on so; client and exchanges stay.
+-- The check went on so; client and exchanges stay. Where a connection is to be made, all bytes are taken.
 abbrev pub ChecksOn : (bytes : List ℕ) (n : ℕ) (step : CheckStep) → Status → Held → Held → Type 0
-ChecksOn bytes n step s h k = (n ≤ length bytes) × (k.dialogue ≡ h.dialogue) × (k.client ≡ h.client)
+ChecksOn bytes n step s h k = (n ≤ length bytes) × (step ≡ check.Connect → n ≡ length bytes) × (k.dialogue ≡ h.dialogue) × (k.client ≡ h.client)
     × ((new : Status) × ChecksBy h.client step (take n bytes) s new × (k.check ≡ check_after step new))
 
 abbrev pub DrivesBy : Option Status → List ℕ → NextStep → Held → Held → Type 0

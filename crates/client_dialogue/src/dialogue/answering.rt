@@ -1,7 +1,7 @@
 //! Answers are taken.
-ghost use Rattle.std.specs.Prelude.{◌≡◌, ◌<◌, ◌≤◌, [], false, true, Some, IfOk, IsSome, OnErr, OnOk, length, take};
+ghost use Rattle.std.specs.Prelude.{◌≡◌, ◌≢◌, ◌<◌, ◌≤◌, [], false, true, Some, IfOk, IsSome, OnErr, OnOk, length, take};
 ghost use Rattle.client_dialogue.specs.Useful.{IsStatusOf};
-ghost use Rattle.client_dialogue.specs.declared.step.Step.TheVariants.{More};
+ghost use Rattle.client_dialogue.specs.declared.step.Step.TheVariants.{Connect, More};
 ghost use Rattle.client_dialogue.specs.Goes.{Fails, Goes, IsUsed, Says, rounds_of};
 ghost use Rattle.client_dialogue.specs.Inside.{Concludes, Feeds, Halts, HasGoneOn, IsConcluded, IsFedBy, IsHaltedBy, given_up};
 
@@ -40,6 +40,7 @@ impl Dialogue {
         requires busy { self.old.asked ≡ true }
         requires opens { self.old.status.is_open ≡ true }
         ensures few { IfOk result (λ progress. progress.count ≤ length bytes.now) }
+        ensures drops { IfOk result (λ progress. progress.step ≡ Connect → progress.count ≡ length bytes.now) }
         ensures goes { IfOk result (λ progress.
             Goes (rounds_of progress.step) (take progress.count bytes.now) self.old client.old self.new client.new) }
         ensures says { IfOk result (λ progress. Says progress.step self.new client.new) }
@@ -65,6 +66,7 @@ impl Dialogue {
         requires more { ¬ (self.old.status.left ≡ Some 0) }
         requires some { 0 < length bytes.now }
         ensures few { IfOk result (λ progress. progress.count ≤ length bytes.now) }
+        ensures other { IfOk result (λ progress. progress.step ≢ Connect) }
         ensures goes { IfOk result (λ progress.
             Goes (rounds_of progress.step) (take progress.count bytes.now) self.old client.old self.new client.new) }
         ensures says { IfOk result (λ progress. Says progress.step self.new client.new) }
@@ -85,6 +87,7 @@ impl Dialogue {
 
     /// Feeds what the bytes are that the connection took.
     fn feed_part(&mut self, client: &mut Client, part: Part, bytes: &[u8]) -> Result<Step, Memory>
+        ensures other { IfOk result (λ step. step ≢ Connect) }
         ensures ok { IfOk result (λ step. IsFedBy part bytes.now step self.old client.old self.new client.new) }
         ensures err { OnErr result (IsHaltedBy part bytes.now self.old client.old self.new client.new) }
     {
@@ -165,6 +168,7 @@ impl Dialogue {
 
     /// Ends the exchange, whose connection is over, with what came of the head.
     fn conclude_head(&mut self, client: &mut Client) -> Result<Step, Memory>
+        ensures other { IfOk result (λ step. step ≢ Connect) }
         ensures ok { IfOk result (λ step. IsConcluded step self.old client.old self.new client.new) }
         ensures err { OnErr result ((self.new ≡ given_up self.old) × Halts self.old.status.head client.old client.new) }
     {
@@ -197,6 +201,7 @@ impl Dialogue {
         requires busy { self.old.asked ≡ true }
         requires opens { self.old.status.is_open ≡ true }
         requires begun { IsSome self.old.status.left }
+        ensures other { IfOk result (λ step. step ≢ Connect) }
         ensures goes { IfOk result (λ step. Goes (rounds_of step) [] self.old client.old self.new client.new) }
         ensures says { IfOk result (λ step. Says step self.new client.new) }
         ensures err { OnErr result (Goes Fails [] self.old client.old self.new client.new) }
