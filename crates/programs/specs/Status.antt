@@ -7,7 +7,7 @@ use Rattle.scripts.specs.declared.line.ScriptError.TheVariants as script
 use Rattle.read_command.specs.declared.error.ReadError.{ReadError}
 use Rattle.read_command.specs.declared.error.ReadError.TheVariants as reading
 use Rattle.programs.specs.declared.exit.Exit.{Exit}
-use Rattle.programs.specs.declared.exit.Exit.TheVariants.{NotText, NotAProgram, CommandLine, NotANumber, OutOfRange, NamesNoFile, NotACoordinate, NoRectangle, NoWindow, NoWorld, NotAFile, NotAnOrigin, OneName, NoClock, Script}
+use Rattle.programs.specs.declared.exit.Exit.TheVariants.{NotText, NotAProgram, CommandLine, NotANumber, OutOfRange, Negative, NamesNoFile, NotACoordinate, NoRectangle, NoWindow, NoWorld, NotAFile, NotAnOrigin, OneName, NoClock, Script}
 use Rattle.programs.specs.declared.exit.Exit.TheVariants.{RefusedClient, NotAFileUrl, RefusedUrl, NoFieldLine, NotAField, OfFile, Explained, NoReport, NoConnection, NotUsed, CantRead, CantReadBy, Refused, CantListen, CantListenAt, CantAccept, CantWait, CantWrite, CantWriteFile, Memory, ReaderGone}
 
 -- 0 where help or the version is asked for, and 2 where the words aren't the program's
@@ -24,6 +24,7 @@ HasStatus (NotAProgram word) n = n ≡ 2
 HasStatus (CommandLine error) n = n ≡ line_status (kind_of error)
 HasStatus (NotANumber word range) n = n ≡ 2
 HasStatus (OutOfRange word range) n = n ≡ 2
+HasStatus (Negative word) n = n ≡ 2
 HasStatus (NamesNoFile word why) n = n ≡ 2
 HasStatus (NotACoordinate word) n = n ≡ 2
 HasStatus NoRectangle n = n ≡ 2

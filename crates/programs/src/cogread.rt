@@ -11,12 +11,13 @@ use crate::exit::Exit;
 use crate::headers::add_headers;
 use crate::local;
 use crate::local::{check_server, is_plain_file, server_of_file, source_of};
+use crate::negative::refused_words;
 use crate::number::{number, number_or, with_range};
 use crate::world_file::world_path;
 use client_sockets::Socket;
 use cog_client::{Client, Pieces, Query};
 use command_lines::{
-    AskedWords, FileUrl, FileUrlError, FileWord, ReadLine, WindowWords, file_url, file_word,
+    AskedWords, FileUrl, FileUrlError, FileWord, LineWithHeaders, ReadLine, WindowWords, file_url, file_word,
     is_url, read_line_with_headers, words_instead,
 };
 use disk_files::replace_file;
@@ -343,6 +344,18 @@ fn line_of_path<'a>(line: ReadLine<'a>) -> ReadLine<'a> {
     }
 }
 
+/// Reads words in which a URL or a path names the file. Fails with `Negative` where a number is negative, and with `CommandLine` where
+/// clap refuses them otherwise.
+fn read_words<'a, R: AllocGlobal>(
+    rt: &R,
+    words: &'a [&'a str],
+) -> Result<LineWithHeaders<'a>, Exit> {
+    match read_line_with_headers(rt.alloc(), words) {
+        Ok(read) => Ok(read),
+        Err(error) => Err(refused_words(rt, words, error)?),
+    }
+}
+
 /// Runs the program on words of which the one at `index` is a URL, which stands for a server and a name. With `is_alone` it stands for
 /// `describe`, too.
 fn run_url<R>(rt: &R, words: &[&str], index: usize, is_alone: bool) -> Result<(), Exit>
@@ -368,7 +381,7 @@ where
 {
     let word = words[index];
     let named = words_instead(rt.alloc(), words, index, &asked.words)?;
-    let read = read_line_with_headers(rt.alloc(), &named)?;
+    let read = read_words(rt, &named)?;
     let line = line_of_url(read.line);
     let numbers = with_range(numbers_of(rt, &line))?;
     let mut client = client_of_url(rt, word, asked.url, numbers.blocks)?;
@@ -401,7 +414,7 @@ where
     if is_plain_file(rt, words[index]) {
         let instead = [local::SERVER, local::NAME];
         let named = words_instead(rt.alloc(), words, index, &instead)?;
-        let read = read_line_with_headers(rt.alloc(), &named)?;
+        let read = read_words(rt, &named)?;
         let line = line_of_path(read.line);
         return run_local(rt, &line, &read.headers, words[index]);
     }

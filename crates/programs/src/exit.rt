@@ -53,6 +53,8 @@ pub enum Exit {
     CantRead(String),
     /// The file at this path can't be read, for this reason.
     CantReadBy(String, NotRead),
+    /// This word is a negative number, where the line has numbers without a sign alone.
+    Negative(String),
     /// This word names no file to read, for this reason.
     NamesNoFile(String, NotRead),
     /// The file of this name isn't published.
@@ -128,6 +130,7 @@ impl Exit {
             | Exit::CommandLine(_)
             | Exit::NotANumber(_, _)
             | Exit::OutOfRange(_, _)
+            | Exit::Negative(_)
             | Exit::NamesNoFile(_, _)
             | Exit::NotACoordinate(_)
             | Exit::NoRectangle
@@ -215,6 +218,10 @@ impl fmt::Display for ExitLine<'_> {
             Exit::OutOfRange(word, range) => {
                 write!(f, "{program}: not a number: {word}. Give {range}")
             }
+            Exit::Negative(word) => write!(
+                f,
+                "{program}: not a number: {word}. Give numbers without a sign"
+            ),
             Exit::NotACoordinate(word) => write!(
                 f,
                 "{program}: not a number: {word}. Give --bounds W S E N: four numbers in the file's own coordinates"

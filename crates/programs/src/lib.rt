@@ -11,6 +11,7 @@ mod disk;
 mod exit;
 mod headers;
 mod local;
+mod negative;
 mod number;
 mod origin;
 mod quick;

@@ -3,7 +3,7 @@ use super::{FaultRow, expect_faults};
 use std::test::Fail;
 
 #[rattlefmt::skip]
-const FAULTS: [FaultRow<'static>; 49] = [
+const FAULTS: [FaultRow<'static>; 51] = [
     // Nobody listens there.
     ("cogread info 127.0.0.1:1 a", "cogread: no report\n", 4),
     ("cogread window 127.0.0.1:1 a 4294967295 0 1 1 --requests 2", "cogread: no report\n", 4),
@@ -56,6 +56,8 @@ const FAULTS: [FaultRow<'static>; 49] = [
     ("cogread window http://127.0.0.1:1/a --bounds -2 -2 -1.5 -1e-5", "cogread: no report: no connection: Connection refused (os error 111)\n", 4),
     // A number is reported with its option and range, where a URL, a path or files alone stand.
     ("cogread info http://h/a --blocks 65", "cogread: not a number: 65. Give --blocks a number from 66 to 4096\n", 2),
+    ("cogread window http://h/a 0 -1 1 1", "cogread: not a number: -1. Give numbers without a sign\n", 2),
+    ("cogread window http://h/a 0 0 1 1 --level -2", "cogread: not a number: -2. Give numbers without a sign\n", 2),
     ("cogserve a --patience 0", "cogserve: not a number: 0. Give --patience a number from 1 to 3600\n", 2),
     // What names no file, and an address at which no server can listen.
     ("cogread info ftp://h/a", "cogread: can't read ftp://h/a: it isn't a URL of http. Give http://HOST/PATH, the path of a file, or SERVER NAME\n", 2),

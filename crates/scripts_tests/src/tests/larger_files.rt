@@ -1,9 +1,12 @@
 //! Clients of larger files as scripts with their logs: several requests, restarts, and queries of every kind.
-use super::{Steps, expect, expect_after, texts_after};
+use super::{PIECES, Steps, expect, expect_after, expect_log, texts_after, texts_of};
+use fixtures_support::f5;
+use scripts::{Loaded, ScriptError, script};
 use std::alloc::Global;
 use std::process::Abort;
 use std::test::Fail;
 use tiff_dir::Memory;
+use world::Event;
 
 /// A tile of f2 by two exchanges. Its report is not in the table.
 #[rattlefmt::skip]
@@ -74,6 +77,70 @@ const SIXTEEN_BITS: Steps = &[
     ("exchange 0", "asked 0 0-65535 - answer 0 206 634 took 1\nreport 0 \"1-1\" window 3 2 1 801280138014802280238024"),
 ];
 
+/// The whole of f5: its directory with the first tile, and two groups of tiles. Its report is not in the table.
+#[rattlefmt::skip]
+const THREE_EXCHANGES: Steps = &[
+    ("open 0 level 0 0 0 1280 1024", "opened 0"),
+    ("exchange 0", "asked 0 0-65535 - answer 0 206 65536 took 4"),
+    ("exchange 0", "asked 0 65536-1064959 \"1-1\" answer 1 206 999424 took 61"),
+    ("exchange 0", "asked 0 1064960-1327103 \"1-1\" answer 2 206 262144 took 16"),
+];
+
+/// A pixel of tile 3 after that. The last 66 blocks are there, so that two of the tile's four have left.
+#[rattlefmt::skip]
+const BLOCKS_THAT_LEFT: Steps = &[
+    ("open 0 level 0 768 0 1 1", "opened 0"),
+    ("exchange 0", "asked 0 212992-245759 \"1-1\" answer 3 206 32768 took 2\nreport 0 \"1-1\" window 1 1 1 03"),
+];
+
+/// Appends the digits of 256 samples that are alike.
+fn push_digits(alloc: Global, digits: &mut String, sample: u32) -> Result<(), Memory> {
+    let pair = format!(in alloc; "{sample:02x}")?;
+    for _ in 0..256 {
+        digits.push_str(pair.as_str())?;
+    }
+    Ok(())
+}
+
+/// The digits of the samples of f5. Each sample of tile t is t.
+fn digits_of_f5(alloc: Global) -> Result<String, Memory> {
+    let mut digits = String::new(alloc);
+    for run in 0..5120u32 {
+        push_digits(alloc, &mut digits, run / 1280 * 5 + run % 5)?;
+    }
+    Ok(digits)
+}
+
+/// The texts of a script that reads the whole of f5 and then a pixel, and of its log.
+fn texts_of_f5(alloc: Global) -> Result<(String, String), Memory> {
+    let (script, log) = texts_after(alloc, "f5.tif", THREE_EXCHANGES)?;
+    let (script_after, log_after) = texts_of(alloc, BLOCKS_THAT_LEFT)?;
+    let digits = digits_of_f5(alloc)?;
+    let script = format!(in alloc; "{}{}", script.as_str(), script_after.as_str())?;
+    let log = format!(in alloc;
+        "{}report 0 \"1-1\" window 1280 1024 1 {}\n{}",
+        log.as_str(),
+        digits.as_str(),
+        log_after.as_str()
+    )?;
+    Ok((script, log))
+}
+
+/// The file f5, under its name.
+fn file_f5(alloc: Global) -> Result<Loaded, Memory> {
+    let mut files = Loaded::new(alloc);
+    files.add(b"f5.tif", f5(alloc)?)?;
+    Ok(files)
+}
+
+/// The events of a script of f5.
+fn events_of_f5(alloc: Global, text: &str) -> Result<Vec<Event>, ScriptError> {
+    let Ok(mut files) = file_f5(alloc) else {
+        return Err(ScriptError::Memory);
+    };
+    script(alloc, text.as_bytes(), &mut files)
+}
+
 /// The texts of a script of f2 and of its log, at whose end the last tile of f2 or f2b is reported. All bytes of the tile have
 /// two equal digits.
 pub fn tile_texts(
@@ -142,6 +209,18 @@ fn reports_three_samples_to_a_pixel(rt: HostRuntime) -> Result<(), Fail> {
 fn reports_samples_of_16_bits_of_both_orders_of_bytes(rt: HostRuntime) -> Result<(), Fail> {
     for file in ["f6.tif", "f6m.tif"] {
         expect_after(&rt, file, SIXTEEN_BITS)?;
+    }
+    Ok(())
+}
+
+#[test]
+fn reports_all_samples_of_a_larger_file(rt: HostRuntime) -> Result<(), Fail> {
+    let (script, log) = texts_of_f5(rt.alloc())?;
+    let events = events_of_f5(rt.alloc(), script.as_str())?;
+    let texts = (script.as_str(), log.as_str());
+    expect_log(&rt, &events, texts, None)?;
+    for piece in PIECES {
+        expect_log(&rt, &events, texts, Some(piece))?;
     }
     Ok(())
 }
