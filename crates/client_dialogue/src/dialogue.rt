@@ -152,7 +152,8 @@ impl Dialogue {
     }
 
     /// Takes bytes that came, as many as are of one part, and returns how many, and what is to be done next. Bytes that nothing asked for
-    /// end the connection, and are dropped with it. Bytes that stand there before there is a connection are of another one, and are dropped.
+    /// end the connection, and are dropped with it. Bytes that stand there before there is a connection are of another one, and are
+    /// dropped.
     ///
     /// Fails without memory. The exchange that was under way is over then, and so is its connection. What of its answer was taken stays.
     pub fn go_on(&mut self, client: &mut Client, bytes: &[u8]) -> Result<Progress, Memory>
