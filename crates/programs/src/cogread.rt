@@ -14,11 +14,12 @@ use crate::local::{check_server, is_plain_file, server_of_file, source_of};
 use crate::negative::refused_words;
 use crate::number::{number, number_or, with_range};
 use crate::world_file::world_path;
+use clap::error::ErrorKind;
 use client_sockets::Socket;
 use cog_client::{Client, Pieces, Query};
 use command_lines::{
-    AskedWords, FileUrl, FileUrlError, FileWord, LineWithHeaders, ReadLine, WindowWords, file_url, file_word,
-    is_url, read_line_with_headers, words_instead,
+    AskedWords, FileUrl, FileUrlError, FileWord, LineWithHeaders, ReadLine, WindowWords, file_url,
+    file_word, is_url, read_line_with_headers, words_instead,
 };
 use disk_files::replace_file;
 use range_cache::{MAX_CAPACITY, MIN_CAPACITY};
@@ -402,7 +403,7 @@ fn explained<R: AllocGlobal>(rt: &R, ended: Result<(), Exit>, client: &Client) -
 }
 
 /// Runs the program on words of which the one at `index` is a URL, or the path of a file of the disk. It stands for a server and a name.
-/// Fails with `NamesNoFile` where it is neither, and no server. After a server a word is missing, which is refused as in other forms.
+/// Where it is neither, the words are run as `run_unread` does.
 fn run_single<R>(rt: &R, words: &[&str], index: usize) -> Result<(), Exit>
 where
     R: Files + Clock + Print + Eprint + AllocGlobal + Net<Stream = TcpStream>,
@@ -418,8 +419,24 @@ where
         let line = line_of_path(read.line);
         return run_local(rt, &line, &read.headers, words[index]);
     }
-    check_server(rt, words[index])?;
-    run_named(rt, words)
+    run_unread(rt, words, words[index])
+}
+
+/// Runs the program on words of which `word` names no file. They name a server and a name, or ask for help. Fails with `NamesNoFile` where
+/// a word is missing and `word` can't be a server.
+fn run_unread<R>(rt: &R, words: &[&str], word: &str) -> Result<(), Exit>
+where
+    R: Files + Clock + Print + Eprint + AllocGlobal + Net<Stream = TcpStream>,
+{
+    match run_named(rt, words) {
+        Err(Exit::CommandLine(error)) => {
+            if error.kind() == ErrorKind::MissingRequiredArgument {
+                check_server(rt, word)?;
+            }
+            Err(Exit::CommandLine(error))
+        }
+        ended => ended,
+    }
 }
 
 /// Runs the program on words that name a server and a name.

@@ -3,7 +3,7 @@ use super::{FaultRow, expect_faults};
 use std::test::Fail;
 
 #[rattlefmt::skip]
-const FAULTS: [FaultRow<'static>; 51] = [
+const FAULTS: [FaultRow<'static>; 50] = [
     // Nobody listens there.
     ("cogread info 127.0.0.1:1 a", "cogread: no report\n", 4),
     ("cogread window 127.0.0.1:1 a 4294967295 0 1 1 --requests 2", "cogread: no report\n", 4),
@@ -68,7 +68,6 @@ const FAULTS: [FaultRow<'static>; 51] = [
     ),
     ("cogread info .", "cogread: can't read .: it isn't a plain file. Give http://HOST/PATH, the path of a file, or SERVER NAME\n", 2),
     ("cogserve --listen nowhere a", "cogserve: can't listen at nowhere: invalid socket address. Give --listen HOST:PORT, as 127.0.0.1:8080\n", 1),
-    ("cogserve --listen 127.0.0.1:0 programs_tests_none", "cogserve: can't read programs_tests_none: No such file or directory (os error 2)\n", 1),
     // As it was before there were URLs: a server and a name.
     ("cogread info http://h/a b", "cogread: refused 1\n", 2),
 ];
