@@ -4,6 +4,7 @@ use cog_client::Why;
 use fixtures_support::f1;
 use known_fields::WholeFile;
 use read_progress::WhySentence;
+use std::alloc::{AllocError, Global};
 use std::test::Fail;
 use text_report::{ExplainedFault, FaultSentence, WayOut, found_value};
 use tiff_dir::FileFault;
@@ -194,19 +195,31 @@ fn explains_faults(rt: HostRuntime) -> Result<(), Fail> {
     Ok(())
 }
 
-/// The compression of f1, at byte 54.
+/// The file f1 with this compression, at byte 54.
+fn file_of(alloc: Global, compression: u8) -> Result<Vec<u8>, AllocError> {
+    let mut file = f1(alloc)?;
+    if let Some(place) = file.get_mut(54) {
+        *place = compression;
+    }
+    Ok(file)
+}
+
+/// The value that explains a fault of f1 with this compression.
+fn value_of(alloc: Global, compression: u8, fault: FileFault) -> Result<Option<u64>, AllocError> {
+    let file = file_of(alloc, compression)?;
+    let explained = ExplainedFault::of(alloc, fault, &WholeFile(&file), &[])?;
+    Ok(explained.found)
+}
+
 #[test]
 fn finds_the_value_that_is_not_read(rt: HostRuntime) -> Result<(), Fail> {
     for (compression, found) in [(1, None), (5, Some(5)), (8, Some(8))] {
-        let mut file = f1(rt.alloc())?;
-        assert!(rt; file.len() > 54);
-        file[54] = compression;
-        let bytes = WholeFile(&file);
-        expect_eq!(rt; found_value(&bytes, 259), found);
-        let explained = ExplainedFault::of(rt.alloc(), FileFault::Unsupported(259), &bytes, &[])?;
-        expect_eq!(rt; explained.found, found);
-        let explained = ExplainedFault::of(rt.alloc(), FileFault::Missing(259), &bytes, &[])?;
-        expect_eq!(rt; explained.found, None);
+        let file = file_of(rt.alloc(), compression)?;
+        expect_eq!(rt; found_value(&WholeFile(&file), 259), found);
+        let value = value_of(rt.alloc(), compression, FileFault::Unsupported(259))?;
+        expect_eq!(rt; value, found);
+        let value = value_of(rt.alloc(), compression, FileFault::Missing(259))?;
+        expect_eq!(rt; value, None);
     }
     Ok(())
 }
