@@ -23,3 +23,7 @@ loop-span-preserved c =
       long = subst (All IsWithin) (sym pushed)
           (All-push IsWithin before text c.loop-span.invariant.long (within_by c.law_requests_are_short.ensures c.args.self.now c.span-item.result text asks.text asks.lawful));
     }
+
+pub returns-clause-end : goal.returns-clause-end
+returns-clause-end c = λ fewer.
+    ?
