@@ -1,6 +1,6 @@
 //! The exchanges of a client, one after another.
 ghost use Rattle.std.specs.Prelude.{◌≡◌, ◌≤◌, [], false, true, IfOk, OnErr, OnOk, length, take};
-ghost use Rattle.client_connection.specs.Status.{over};
+ghost use Rattle.client_connection.specs.Status.{after_write, over};
 ghost use Rattle.client_dialogue.specs.Goes.{BeginsAnew, Fails, Goes, MakesNone, Says, rounds_of};
 ghost use Rattle.client_dialogue.specs.declared.step.Step.TheVariants.{Connect};
 
@@ -120,7 +120,8 @@ impl Dialogue {
         requires busy { self.old.asked ≡ true }
         requires opens { self.old.status.is_open ≡ true }
         requires within { count ≤ length self.old.status.waits }
-        ensures { Goes MakesNone [] self.old client.now self.new client.now }
+        ensures goes { Goes MakesNone [] self.old client.now self.new client.now }
+        ensures wrote { self.new ≡ record self.old { status = after_write count self.old.status } }
     {
         self.connection.wrote(count);
     }
@@ -136,6 +137,7 @@ impl Dialogue {
     pub fn connected(&mut self, client: &Client) -> Result<(), Memory>
         requires { self.old.asked ≡ true }
         ensures ok { OnOk result (Goes MakesNone [] self.old client.now self.new client.now) }
+        ensures opens { OnOk result (self.new.status.is_open ≡ true) }
         ensures err { OnErr result (Goes Fails [] self.old client.now self.new client.now) }
     {
         if self.connection.is_open() {

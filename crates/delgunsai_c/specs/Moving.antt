@@ -40,6 +40,7 @@ LaysWaiting h room left told = LaysFront (waits_of h) room left told
 abbrev pub WritesBy : Option Status → ℕ → Held → Held → Type 0
 WritesBy None count h k =
     Goes MakesNone [] h.dialogue h.client k.dialogue k.client × (k.client ≡ h.client) × (k.check ≡ None)
+    × (k.dialogue ≡ record h.dialogue { status = after_write count h.dialogue.status })
 WritesBy (Some s) count h k = k ≡ record h { check = Some (after_write count s) }
 
 -- an exchange is under way on a connection that is there
@@ -60,7 +61,7 @@ OpensCheck told s new = ((told ≡ pos 0) × (new ≡ after_open s)) ⊎ ((told 
 
 abbrev pub ConnectsBy : Option Status → ℤ → Held → Held → Type 0
 ConnectsBy None told h k = (k.client ≡ h.client) × (k.check ≡ None)
-    × (((told ≡ pos 0) × Goes MakesNone [] h.dialogue h.client k.dialogue k.client)
+    × (((told ≡ pos 0) × Goes MakesNone [] h.dialogue h.client k.dialogue k.client × (k.dialogue.status.is_open ≡ true))
     ⊎ ((told ≡ code_of Memory) × Goes Fails [] h.dialogue h.client k.dialogue k.client))
 ConnectsBy (Some s) told h k = (new : Status) × OpensCheck told s new × (k ≡ record h { check = Some new })
 

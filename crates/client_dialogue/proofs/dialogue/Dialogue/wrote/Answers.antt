@@ -4,8 +4,8 @@ use Rattle.client_dialogue.specs.Goes.{Goes, MakesNone}
 use Rattle.client_dialogue.proofs.HistoryLemmas.{none_goes, wrote_goes}
 use Rattle.client_dialogue.proofs.dialogue.Dialogue.wrote.Goals as goal
 
-pub returns : goal.returns
-returns c =
+pub returns-clause-goes : goal.returns-clause-goes
+returns-clause-goes c =
     let t : Talk = record { status = c.self.inside.connection; asked = c.self.inside.asked; exchanges = c.self.inside.exchanges } in
     let u : Talk = record { status = c.wrote.new.self; asked = c.self.inside.asked; exchanges = c.self.inside.exchanges } in
     subst (λ (x : Talk). Goes MakesNone [] x c.args.client.now u c.args.client.now) c.self.view_is
