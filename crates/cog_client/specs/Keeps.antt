@@ -150,3 +150,4 @@ pub record Stands (c : ClientState) (report : Option Report) : Type 0 where
   pub standing : report ≡ report_of c
   pub read : IsSome report → IsSome (revision_of c)
   pub holds : (book : Book) → ClientAgrees c book → IfSome report (λ r. IsTrueReport r (name_of c) (query_of c) book)
+  pub tagged : (book : Book) → ClientAgrees c book → IfSome report (λ r. tag_of c ≡ Some r.tag)

@@ -204,7 +204,7 @@ impl Client {
     }
 
     /// Adds a field line to each request and check from now on, after those before. A request that was made already
-    /// stays as it is. Fails as `RequestFields::push` does, and then nothing changes.
+    /// is made again with it, and keeps its byte range. Fails as `RequestFields::push` does, and then nothing changes.
     pub fn add_field(&mut self, name: &[u8], value: &[u8]) -> Result<(), FieldError>
         ensures ok { OnOk result (AddsField (name.now, value.now) self.old self.new) }
         ensures err { IfErr result (IsFieldRefusal (field_refusal (fields_of self.old) (name.now, value.now))) }

@@ -1,6 +1,7 @@
 -- The range that is wanted, and those that are known after it.
-use Rattle.std.proofs.Common.{◌≡◌, ℕ, ◌+◌, ◌<◌, ◌≤◌, List, Option, Some, None, length, refl, sym, subst, ap, ◌∙◌, arith}
+use Rattle.std.proofs.Common.{◌≡◌, ℕ, zero, suc, ◌+◌, ◌<◌, ◌≤◌, List, [], ◌∷◌, Option, Some, None, length, refl, sym, subst, ap, ◌∙◌, arith}
 use Rattle.std.specs.Prelude.{slice_get, IfSome, IsSomeAnd, MatchOption, if◌then◌else◌}
+use Rattle.std.specs.List.{filter_map}
 use Rattle.std.specs.Option.{option_map}
 use Rattle.std.proofs.lemmas.Bool.Decides.{eqb_tells}
 use Rattle.std.proofs.Common.{inl, inr}
@@ -16,6 +17,7 @@ use Rattle.extents.specs.Extent.{Extent}
 use Rattle.tiff_dir.specs.Needs.{extent_of_place}
 use Rattle.tiff_dir.specs.Query.{needs_of_query}
 use Rattle.tiff_dir.specs.Walk as walk
+use Rattle.tiff_dir.specs.Walk.{levels_of}
 use Rattle.extents.specs.Extent.{extent_of_span}
 use Rattle.tile_plan.specs.declared.asked.Rectangle.{Rectangle}
 use Rattle.tile_plan.specs.declared.plan.Group.{Group}
@@ -24,18 +26,20 @@ use Rattle.tile_plan.specs.declared.arrays.Arrays.{Arrays}
 use Rattle.cog_reader.specs.declared.kept_arrays.KeptArrays.{KeptArrays}
 use Rattle.cog_reader.specs.declared.kept_arrays.KeptArrays.TheVariants.{Both}
 use Rattle.tile_plan.specs.declared.window_builder.WindowBuilder.{WindowBuilder}
+use Rattle.cog_reader.specs.declared.state.PendingQuery.{PendingQuery}
 use Rattle.cog_reader.specs.declared.state.State.{State}
-use Rattle.cog_reader.specs.declared.state.State.TheVariants.{Directories, Arrays as Reads, Tiles, GeoFields as Geo}
-use Rattle.cog_reader.specs.GeoFields.{present_in}
+use Rattle.cog_reader.specs.declared.state.State.TheVariants.{Answered, Directories, Arrays as Reads, Tiles, GeoFields as Geo}
+use Rattle.cog_reader.specs.GeoFields.{present_in, six}
+use Rattle.cog_reader.specs.Going.{known_at}
 use Rattle.cog_reader.specs.KeptArrays.{array_after, arrays_held, next_array, HasBoth}
 use Rattle.tile_plan.specs.WindowBuilder.{IsPlan, IsUnderway}
-use Rattle.cog_reader.specs.Reader.{come_by, upcoming_by, wanted_by, StateAgrees}
+use Rattle.cog_reader.specs.Reader.{come_by, upcoming, upcoming_by, wanted_by, IsReader, IsState, ReaderState, StateAgrees}
 use Rattle.cog_reader.specs.ReaderStep.{ComesAt, ComesLater, ComesNext, IsBase, IsWantedBy}
 use Rattle.cog_reader.proofs.FieldLemmas.{geo_ranges_are}
 use Rattle.cog_reader.proofs.FirstLemmas.{first_array, first_field, first_of_directories, get_of_drop, some_both, tiles_wanted}
 use Rattle.cog_reader.proofs.GiveLemmas.{group_at}
 use Rattle.cog_reader.proofs.ArrayLemmas.{array_some}
-use Rattle.cog_reader.proofs.StepLemmas.{fair_group_at, needs_split, IsLevelOf}
+use Rattle.cog_reader.proofs.StepLemmas.{fair_group_at, groups_few, needs_split, IsLevelOf}
 
 -- ---- a group
 
@@ -189,3 +193,35 @@ pub next_field : (file_length : ℕ) (w : WalkState) (k : KeptArrays) (x : GeoFi
     → ComesNext file_length w k (Geo x) o
 next_field file_length w k x p o is placed_at =
     placed file_length w k (Geo x) 0 (wanted_by w k (Geo x)) p o (ap (option_map extent_of_place) is) (λ f q base here. first_field file_length w k x p is f q here) placed_at
+
+-- ---- how many are known
+
+present_few : (os : List (Option Place)) → length (filter_map (λ o. o) os) ≤ length os
+present_few [] = omega arith
+present_few (None ∷ os) = (let few = present_few os in omega (arith, few))
+present_few (Some p ∷ os) = (let few = present_few os in omega (arith, few))
+
+-- 65,536 ranges after the next one at most
+upcoming_few : (file_length : ℕ) (w : WalkState) (k : KeptArrays) (state : State) (i : ℕ) → IsState file_length w k state → 65536 ≤ i → upcoming_by w k state i ≡ None
+upcoming_few file_length w k Directories i is far = refl
+upcoming_few file_length w k (Reads r) i is far = elim (eqb_tells i 0) [
+  | inl e ↦ absurd (omega (arith, e.1, far))
+  | inr e ↦ ap (λ t. if t then (slice_get (levels_of w) r.level >>= λ l. option_map extent_of_place (array_after k r.level l)) else None) e.0
+]
+upcoming_few file_length w k (Tiles m) i is far =
+    ap (option_map (λ (g : Group). extent_of_span g.span)) (some_both k (λ a. IsPlan file_length a m) (slice_get m.groups (m.given + 1 + i) ≡ None) is.1 (λ a plan.
+    let few = groups_few file_length a m plan in
+    slice_get_past m.groups (m.given + 1 + i) (omega (arith, few, far))))
+upcoming_few file_length w k (Geo x) i is far =
+    let few = present_few (six x.places) in
+    ap (option_map extent_of_place) (slice_get_past (present_in x.places) (x.given + 1 + i) (omega (arith, few, far)))
+upcoming_few file_length w k (Answered o) i is far = refl
+
+pub known_few : (r : ReaderState) → IsReader r.file_length r.walk r.kept r.pending → (i : ℕ) → 65536 < i → known_at r i ≡ None
+unfolding upcoming
+known_few r is zero far = absurd (omega (arith, far))
+known_few r is (suc i) far = at r.pending refl is.state
+  where
+    at : (o : Option PendingQuery) → r.pending ≡ o → IfSome o (λ a. IsState r.file_length r.walk r.kept a.state) → (o >>= λ a. upcoming_by r.walk r.kept a.state i) ≡ None
+    at None same tells = refl
+    at (Some a) same tells = upcoming_few r.file_length r.walk r.kept a.state i tells (omega (arith, far))

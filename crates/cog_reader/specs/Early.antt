@@ -1,5 +1,5 @@
 -- What may be asked for early: before the answer came to what is asked for now.
-use Rattle.std.specs.Prelude.{◌≡◌, ℕ, ◌+◌, ◌-◌, ◌*◌, ◌/◌, ◌<◌, ◌≤◌, ◌⊎◌, false, true, List, Some, slice_get}
+use Rattle.std.specs.Prelude.{◌≡◌, ℕ, ◌+◌, ◌-◌, ◌*◌, ◌/◌, ◌<◌, ◌≤◌, ◌⊎◌, false, true, List, Some, IsSomeAnd, slice_get}
 use Rattle.std.specs.List.{AllPairs, Any}
 use Rattle.extents.specs.declared.span.Span.{Span}
 use Rattle.extents.specs.declared.limits.TheConstants.{BLOCK_SIZE}
@@ -61,6 +61,27 @@ pub record LeavesNothing (w : CachedReader) (asked : Span) (spans : List Span) (
   pub known : known_at w.reader index ≡ Some range
   pub begins : Touches range (span.first / BLOCK_SIZE)
   pub before : (i : ℕ) (r : Extent) (k : ℕ) → i ≤ index → known_at w.reader i ≡ Some r → Touches r k → asked.last < k * BLOCK_SIZE → k * BLOCK_SIZE < span.first → IsSeenTo w spans k
+
+-- The range ends in the file, and the cache has room for all its blocks.
+abbrev pub Fits : CachedReader → Extent → Type 0
+Fits w r = (r.first + r.len ≤ file_length_of w.reader) × (blocks r.first r.len ≤ w.cache.capacity)
+
+-- The ranges that the reader wants from now on, up to the one at this place, are known, and each of them fits. They stand in the order of
+-- the file: none begins in a block before the one in which an earlier one begins.
+pub record IsInReach (w : CachedReader) (place : ℕ) : Type 0 where
+  pub each : (i : ℕ) → i ≤ place → IsSomeAnd (known_at w.reader i) (Fits w)
+  pub order : (i j : ℕ) (r s : Extent) → i ≤ j → j ≤ place → known_at w.reader i ≡ Some r → known_at w.reader j ≡ Some s → first_block r.first ≤ first_block s.first
+
+-- Nothing in reach is left out: each block of a range in reach that lies behind what is asked for now is there, or in one of these spans.
+abbrev pub LeavesNothingInReach : CachedReader → Span → List Span → Type 0
+LeavesNothingInReach w asked spans =
+    (place : ℕ) (r : Extent) (k : ℕ) → IsInReach w place → known_at w.reader place ≡ Some r → Touches r k → asked.last < k * BLOCK_SIZE → IsSeenTo w spans k
+
+-- From the range at a place on, which begins in block `least`, no range in reach has a missing block from another one on.
+abbrev pub AreThereInReach : CachedReader → ℕ → ℕ → ℕ → Type 0
+AreThereInReach w from least to =
+    (first r : Extent) (place k : ℕ) → known_at w.reader from ≡ Some first → first_block first.first ≡ least → from ≤ place → IsInReach w place
+    → known_at w.reader place ≡ Some r → Touches r k → to ≤ k → has k (numbers w.cache.entries) ≡ true
 
 -- The ranges that the reader wants from one place up to another have no block before one number, and no missing one from another on.
 abbrev pub ArePassed : CachedReader → ℕ → ℕ → ℕ → ℕ → Type 0

@@ -1,18 +1,19 @@
 //! Asking early: what the next requests ask for, if the answers before them come whole.
-ghost use Rattle.std.specs.Prelude.{◌≡◌, ◌+◌, ◌-◌, ◌*◌, ◌/◌, ◌<◌, ◌≤◌, ◌^◌, false, true, ℕ, List, Some, IfOk, IfSome, MatchOption, length, slice_get};
+ghost use Rattle.std.specs.Prelude.{◌≡◌, ◌+◌, ◌-◌, ◌*◌, ◌/◌, ◌<◌, ◌≤◌, ◌^◌, false, true, ℕ, List, Some, IfNone, IfOk, IfSome, MatchOption, length, slice_get};
 ghost use Rattle.std.specs.List.{All};
 ghost use Rattle.extents.specs.declared.limits.TheConstants.{BLOCK_SIZE};
+ghost use Rattle.extents.specs.Block.{blocks};
 ghost use Rattle.extents.specs.Extent.{extent_of_span};
 ghost use Rattle.range_cache.specs.Cache.{numbers};
 ghost use Rattle.range_cache.specs.Numbers.{has};
 ghost use Rattle.cog_reader.specs.Reader.{file_length_of, to_come, IsRangeIn, ReaderAgrees};
 ghost use Rattle.cog_reader.specs.Going.{known_at, work};
-ghost use Rattle.cog_reader.specs.Early.{AreApart, AreNeededLater, ArePassed, BeginsIn, IsEarly, LeavesNothing};
+ghost use Rattle.cog_reader.specs.Early.{AreApart, AreNeededLater, ArePassed, AreThereInReach, BeginsIn, IsEarly, LeavesNothing, LeavesNothingInReach};
 
 use crate::Reader;
 use crate::ahead::{MAX_BLOCKS, reach, span_of_blocks};
 use extents::{BLOCK_SIZE, Memory, Span};
-use range_cache::Cache;
+use range_cache::{Cache, law_missing_is_exact};
 use std::alloc::Global;
 
 /// The run of blocks that one request asks for, and where to look for the next run. It has the blocks from `from` on
@@ -60,7 +61,10 @@ fn run_in(
     ensures index { IfSome result (λ run. run.index ≡ index) }
     ensures least { IfSome result (λ run. run.least ≡ range.first / BLOCK_SIZE) }
     ensures range { IfSome result (λ run. BeginsIn (work reader.now cache.now) run.index run.least run.from) }
+    ensures full { IfNone result (has from (numbers cache.now.entries) ≡ false
+        → cache.now.capacity < blocks range.first (extent_of_span range).len) }
 {
+    law_missing_is_exact();
     let first = range.first / BLOCK_SIZE;
     let range_end = range.last / BLOCK_SIZE + 1;
     let there = from - first + cache.present(from, range_end);
@@ -115,7 +119,9 @@ fn next_run(reader: &Reader, cache: &Cache, last: Run, ahead: u32) -> Option<Run
     ensures passed { IfSome result (λ run. ArePassed (work reader.now cache.now) last.index run.index last.least last.to) }
     ensures before { IfSome result (λ run. (k : ℕ) → run.least ≤ k → last.to ≤ k → k < run.from
         → has k (numbers cache.now.entries) ≡ true) }
+    ensures end { IfNone result (AreThereInReach (work reader.now cache.now) last.index last.least last.to) }
 {
+    reader.few_are_known();
     for index in last.index..u32::MAX {
         let Some(range) = range_at(reader, index) else {
             return None;
@@ -150,6 +156,9 @@ pub fn early_spans(
     // Before each of them no missing block of a known range is left out. This is said of the ranges that are needed
     // from now on, up to the one that it begins in.
     ensures order { IfOk result (λ spans. All (LeavesNothing (work reader.now cache.now) asked spans.items) spans.items) }
+    // Where they are fewer, nothing in reach is left out.
+    ensures end { IfOk result (λ spans. length spans.items < most
+        → LeavesNothingInReach (work reader.now cache.now) asked spans.items) }
 {
     let mut spans = Vec::new(alloc);
     let Some(range) = reader.wanted() else {

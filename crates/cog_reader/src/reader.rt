@@ -47,12 +47,13 @@ impl Model for Reader {
 
 #[tactic(auto, unfolding(crate::specs::Reader::wanted, crate::specs::Reader::tiles_wanted, crate::specs::Reader::outcome_of, crate::specs::Reader::query_of, crate::specs::Reader::file_length_of, crate::specs::Reader::to_come, crate::specs::Reader::unread, crate::specs::Reader::upcoming, crate::specs::Reader::steps_of, crate::specs::Reader::tiles_of, crate::specs::Reader::AreDirectoriesRead, crate::specs::Reader::ReaderAgrees))]
 impl Reader {
-    ghost use Rattle.std.specs.Prelude.{◌≡◌, ◌+◌, ◌≤◌, true, ℕ, List, [], None, Some, IfOk, IfSome, IsOk, IsSome, IsSomeAnd, MatchOption, OnErr, OnOk, length, slice_get, ◌⊎◌};
+    ghost use Rattle.std.specs.Prelude.{◌≡◌, ◌+◌, ◌<◌, ◌≤◌, true, ℕ, List, [], None, Some, IfOk, IfSome, IsOk, IsSome, IsSomeAnd, MatchOption, OnErr, OnOk, length, slice_get, ◌⊎◌};
     ghost use Rattle.tiff_dir.specs.declared.level.Compression.TheVariants.{Plain};
     ghost use Rattle.tiff_dir.specs.Described.{AreLevels};
     ghost use Rattle.extents.specs.Extent.{extent_of_span};
     ghost use Rattle.tiff_dir.specs.declared.query.Query.{Query};
     ghost use Rattle.cog_reader.specs.Outcome.{IsTrueOf};
+    ghost use Rattle.cog_reader.specs.Going.{known_at};
     ghost use Rattle.cog_reader.specs.Reader.{file_length_of, outcome_of, query_of, steps_of, tiles_of, tiles_wanted, to_come, unread, wanted, AreDirectoriesRead, ReaderAgrees, IsNext, IsUpcoming, IsWanted, Takes, Wants};
     ghost use Rattle.tiff_dir.specs.Window.{is_packed};
     ghost use Rattle.tile_plan.specs.TileCache.{size_of_tiles};
@@ -103,6 +104,14 @@ impl Reader {
         ensures { size_of_tiles (tiles_of self.now).tiles ≤ (tiles_of self.now).most }
     {
         self.tile_cache.no_more_is_kept();
+    }
+
+    /// Does nothing: its contract says that at most 65,537 ranges are known at a time, the next one and 65,536 later
+    /// ones.
+    pub(crate) fn few_are_known(&self)
+        ensures { (index : ℕ) → 65536 < index → known_at self.now index ≡ None }
+    {
+        let _length = self.file_length;
     }
 
     /// Asks `query` instead of the one before, whose state is dropped. It allocates nothing.

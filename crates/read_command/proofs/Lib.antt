@@ -1,3 +1,4 @@
 pub mod OpenLemmas
 pub mod PartLemmas
 pub mod FetchLemmas
+pub mod UsedLemmas

@@ -95,6 +95,11 @@ IsReplacedOften a most old new = (n : ℕ) × (mid : ClientState) × (most ≤ n
 abbrev pub AnswersPart : Part → ClientState → Type 0
 AnswersPart part c = IsSomeAnd (report_of c) (λ r. query_of c ≡ Some Info → GivesWindow (asked.Part part) r.outcome → ⊥)
 
+-- All exchanges are used up, or a report stands; for a part of a level one that does more than give its window.
+abbrev pub IsAnswered : Asked → (most count : ℕ) → ClientState → Type 0
+IsAnswered (asked.Part part) most count c = (most ≤ count) ⊎ AnswersPart part c
+IsAnswered a most count c = (most ≤ count) ⊎ IsSome (report_of c)
+
 -- The exchanges end where all are used up, or a report stands; those for a part of a level only where one stands that does more than give its
 -- window, or where the file was replaced as often as there may be exchanges.
 abbrev pub Ends : Asked → (most count : ℕ) → (old new : ClientState) → Type 0

@@ -5,14 +5,14 @@ ghost use Rattle.http_range.specs.Book.{Book, HasDistinctTags};
 ghost use Rattle.http_range.specs.declared.reading.Why.{Why};
 ghost use Rattle.cog_client.specs.Calls.{IsIdle};
 ghost use Rattle.cog_client.specs.declared.report.Report.{Report};
-ghost use Rattle.cog_client.specs.Client.{name_of, report_of, ClientAgrees};
+ghost use Rattle.cog_client.specs.Client.{name_of, query_of, report_of, revision_of, tag_of, ClientAgrees};
 ghost use Rattle.cog_client.specs.Keeps.{RequestsKeeping, Stands};
 ghost use Rattle.cog_client.specs.Transport.{Anything, FetchesAll, FetchesSome, KeepsReading, ReadsBook, StopsFetching};
 ghost use Rattle.cog_fetch.specs.Takes.{TakenOf};
 ghost use Rattle.read_progress.specs.Noted.{IsRefused, source_of};
 ghost use Rattle.read_command.specs.declared.error.ReadError.TheVariants.{NoReport, NotUsed};
 ghost use Rattle.read_command.specs.declared.reading.Asked.TheVariants.{Part as APart};
-ghost use Rattle.read_command.specs.Exchanges.{AsksOf, Ends, EndsUnused, IsAtOnce, IsUnused, IsWindowFor, ReadsSome, StillReads, StopsReading};
+ghost use Rattle.read_command.specs.Exchanges.{AsksOf, Ends, EndsUnused, IsAnswered, IsAtOnce, IsUnused, IsWindowFor, ReadsSome, StillReads, StopsReading};
 ghost use Rattle.read_command.specs.Text.{GivesWindow, HasNothing, IsOfFile, IsOfPartBy, IsWritten, StaysWithin, WritesTrue};
 
 use crate::error::ReadError;
@@ -70,6 +70,10 @@ impl<R: Eprint + Clock + AllocGlobal> Exchanges<'_, R> {
     ) -> Result<(), FetchError>
         ensures keeps { KeepsReading (P.speaks_for (source_of noted.old)) (P.speaks_for (source_of noted.new)) client.old client.new }
         ensures few { StaysWithin self.now.requests (P.count (source_of noted.old)) (P.count (source_of noted.new)) }
+        ensures more { OnOk result (P.count (source_of noted.old) ≤ P.count (source_of noted.new)) }
+        // Without an exchange the client reads the same revision.
+        ensures still { OnOk result (P.count (source_of noted.new) ≡ P.count (source_of noted.old)
+            → revision_of client.new ≡ revision_of client.old) }
         ensures ends { OnOk result ((self.now.requests ≤ P.count (source_of noted.new)) ⊎ IsIdle client.new) }
         ensures last { self.now.requests ≤ P.count (source_of noted.old)
             → OnOk result ((request : Option (List ℕ)) × RequestsKeeping client.old request client.new) }
@@ -106,6 +110,8 @@ impl<R: Eprint + Clock + AllocGlobal> Exchanges<'_, R> {
         ensures few { StaysWithin self.now.requests (P.count (source_of noted.old)) (P.count (source_of noted.new)) }
 
         ensures ends { OnOk result (Ends (APart part) self.now.requests (P.count (source_of noted.new)) client.old client.new) }
+        ensures answered { (book : Book) → ReadsBook (P.speaks_for (source_of noted.old)) client.old book
+            → OnOk result (IsAnswered (APart part) self.now.requests (P.count (source_of noted.new)) client.new) }
 
         // `queries`: queries for what is asked are opened one after another, with exchanges for each, and nothing else is done to the
         // client. `stops`: where no memory was left, that was in the exchanges for the last of them.
@@ -140,6 +146,8 @@ impl<R: Eprint + Clock + AllocGlobal> Exchanges<'_, R> {
             → IfOk result (AsksOf book asked client.new) }
         ensures few { StaysWithin self.now.requests (P.count (source_of noted.old)) (P.count (source_of noted.new)) }
         ensures ends { OnOk result (Ends asked self.now.requests (P.count (source_of noted.new)) client.old client.new) }
+        ensures answered { (book : Book) → ReadsBook (P.speaks_for (source_of noted.old)) client.old book
+            → OnOk result (IsAnswered asked self.now.requests (P.count (source_of noted.new)) client.new) }
 
         // `queries`: queries for what is asked are opened one after another, with exchanges for each, and nothing else is done to the
         // client. `stops`: where no memory was left, that was in the exchanges for the last of them.
@@ -212,6 +220,8 @@ impl<R: Eprint + Clock + AllocGlobal> Exchanges<'_, R> {
         ensures few { StaysWithin self.now.requests (P.count (source_of noted.old)) (P.count (source_of noted.new)) }
         ensures ends { IsAtOnce asked → OnOk result
             ((self.now.requests ≤ P.count (source_of noted.new)) ⊎ IsSome (report_of client.new)) }
+        ensures answered { (book : Book) → ReadsBook (P.speaks_for (source_of noted.old)) client.old book
+            → OnOk result (IsAnswered asked self.now.requests (P.count (source_of noted.new)) client.new) }
         ensures refused { IfErr result (EndsUnused self.now.is_url (P.count (source_of noted.old)) (P.count (source_of noted.new))
             noted.new) }
     {
@@ -232,10 +242,12 @@ impl<R: Eprint + Clock + AllocGlobal> Exchanges<'_, R> {
         // What is written is true of one publication of each book that the client reads and the source speaks for.
         ensures truth { (book : Book)
             → ReadsBook (P.speaks_for (source_of noted.old)) client.old book → WritesTrue (name_of client.old) book asked result }
-        // The source counts at most `requests` exchanges, unless it counted more before. `NoReport` is returned only after all of them, but
-        // for a part of a level, which is read by several queries.
+        // The source counts at most `requests` exchanges, unless it counted more before. `NoReport` is returned only after all of them. Of
+        // a part of a level, which is read by several queries, this is said where the source speaks for a book that the client reads.
         ensures few { StaysWithin self.now.requests (P.count (source_of noted.old)) (P.count (source_of noted.new)) }
         ensures none { IsAtOnce asked → result ≡ Err NoReport
+            → self.now.requests ≤ P.count (source_of noted.new) }
+        ensures used_up { (book : Book) → ReadsBook (P.speaks_for (source_of noted.old)) client.old book → result ≡ Err NoReport
             → self.now.requests ≤ P.count (source_of noted.new) }
         // `NotUsed` is returned only where a URL names the file, after one exchange at most, and gives the reason of the answer that came
         // then.
@@ -262,6 +274,8 @@ impl<R: Eprint + Clock + AllocGlobal> Exchanges<'_, R> {
         ensures written { IsOfFile result
             → (r : Report) × Stands client.now (Some r) × IsWritten asked r.tag r.outcome result }
         ensures left { result ≡ Err NoReport → HasNothing asked (report_of client.now) }
+        ensures info { (book : Book) → ClientAgrees client.now book
+            → IfSome (report_of client.now) (λ r. GivesWindow asked r.outcome → query_of client.now ≡ Some AnInfo) }
         ensures says { IfSome (report_of client.now) (λ r. IsWritten asked r.tag r.outcome result) }
         ensures silent { report_of client.now ≡ None → result ≡ Err NoReport }
         ensures used { (why : Why) → result ≢ Err (NotUsed why) }
@@ -335,6 +349,7 @@ fn given_told(client: &Client, part: Part) -> Option<(Tag, Given)>
     ensures asked { IfSome result (λ told. IsWindowFor part.area part.level told.1.window) }
     ensures window { IfSome result (λ told. told.1.window ≢ AnInfo) }
     ensures told { IfSome result (λ told. IsSomeAnd (report_of client.now) (λ r. r.tag ≡ told.0)) }
+    ensures tagged { (book : Book) → ClientAgrees client.now book → IfSome result (λ told. tag_of client.now ≡ Some told.0) }
     ensures none { result ≡ None → IfSome (report_of client.now) (λ r. GivesWindow (APart part) r.outcome → ⊥) }
 {
     law_fronts_are_read();
@@ -352,6 +367,7 @@ fn given_told(client: &Client, part: Part) -> Option<(Tag, Given)>
 fn has_another_tag(client: &Client, tag: &Tag) -> bool
     ensures same { result ≡ false → IfSome (report_of client.now) (λ r. r.tag ≡ tag.now) }
     ensures other { result ≡ true → IsSomeAnd (report_of client.now) (λ r. r.tag ≢ tag.now) }
+    ensures tagged { (book : Book) → ClientAgrees client.now book → result ≡ true → tag_of client.now ≢ Some tag.now }
 {
     match client.report() {
         Some(report) => report.tag != *tag,

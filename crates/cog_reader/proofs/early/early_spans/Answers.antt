@@ -8,7 +8,8 @@ use Rattle.extents.specs.declared.limits.TheConstants.{BLOCK_SIZE}
 use Rattle.extents.specs.Block.{end_of}
 use Rattle.cog_reader.specs.Going.{work}
 use Rattle.cog_reader.specs.Early.{AreApart, IsEarly, LeavesNothing}
-use Rattle.cog_reader.proofs.EarlyLemmas.{AreBefore, ArePassedBy, AreSeenTo, last_leaves, leaves_more, one_apart, one_before, seen_more}
+use Rattle.cog_reader.proofs.EarlyLemmas.{AreBefore, ArePassedBy, AreSeenTo, last_leaves, leaves_more, nothing_more, one_apart, one_before, seen_more}
+use Rattle.cog_reader.proofs.early.early_spans.Goals.{else-loop-test, then-loop-test+in_default-next_run}
 use Rattle.cog_reader.proofs.early.early_spans.Goals as goal
 
 pub loop-preserved : goal.loop-preserved
@@ -66,10 +67,21 @@ loop-preserved c =
       apart = subst AreApart (sym pushed) (one_apart spans span (l.last.to * BLOCK_SIZE) l.invariant.before (omega (arith, later, first)) l.invariant.apart);
       before = subst (AreBefore (run.to * BLOCK_SIZE)) (sym pushed)
           (one_before spans span (l.last.to * BLOCK_SIZE) (run.to * BLOCK_SIZE) l.invariant.before (omega (arith, later, some)) (omega (arith, some, last)));
-      few = omega (arith, few, ap length pushed, length-append spans (span ∷ []));
+      few = ap length pushed ∙ omega (arith, few, length-append spans (span ∷ []));
       behind = omega (arith, behind, later, some);
       order = subst (λ xs. All (LeavesNothing w asked xs) xs) (sym pushed) order;
       passed = subst (λ xs. ArePassedBy w asked xs run.index) (sym pushed) passed;
       seen = subst (λ xs. AreSeenTo w asked xs run.least run.to) (sym pushed) seen;
+      begins = (e.range.0, e.range.1, e.range.2);
       small = omega (arith, inside, file_length);
     }
+
+pub returns-clause-end : goal.returns-clause-end
+returns-clause-end c = λ fewer.
+    let l = c.loop in
+    elim c.loop-test.branch [
+      | else-loop-test w ↦ let same = l.invariant.few in absurd (omega (arith, w.loop-test.false, same, fewer))
+      | then-loop-test+in_default-next_run w ↦
+          nothing_more (work c.args.reader.now c.args.cache.now) c.args.asked l.spans.items l.last.index l.last.least l.last.to l.invariant.begins l.invariant.passed l.invariant.seen
+          w.in_default-next_run.ensures.end
+    ]

@@ -1,10 +1,10 @@
-use Rattle.std.proofs.Common.{◌≡◌, suc, ◌+◌, ◌-◌, ◌/◌, arith, inl, inr, sym, subst}
+use Rattle.std.proofs.Common.{◌≡◌, suc, ◌+◌, ◌-◌, ◌/◌, ◌∙◌, arith, ap, inl, inr, sym, subst}
 use Rattle.std.specs.Prelude.{IsSomeAnd}
-use Rattle.std.proofs.lemmas.Bool.{cases_lt}
+use Rattle.std.proofs.lemmas.Bool.{cases_lt, false≢true}
 use Rattle.extents.specs.Extent.{extent_of_span}
 use Rattle.extents.specs.Block.{blocks}
 use Rattle.range_cache.specs.Cache.{numbers}
-use Rattle.range_cache.specs.Numbers.{missing as absent}
+use Rattle.range_cache.specs.Numbers.{has, missing as absent}
 use Rattle.cog_reader.specs.Going.{Touches}
 use Rattle.cog_reader.proofs.AheadLemmas.{touched, touches_in}
 use Rattle.cog_reader.proofs.early.run_in.Goals as goal
@@ -58,3 +58,17 @@ returns-clause-needed c =
         room = omega (arith, there, capacity, high, begins, c.requires.ends, count, a.range.ascending, later, other, low);
       };
     }
+
+-- the range has more blocks than there is room for, where its block `from` is missing and still nothing has room
+pub returns-then-end-from-clause-full : goal.returns-then-end-from-clause-full
+returns-then-end-from-clause-full c = λ gone.
+    let a = c.args in
+    let run = c.run_end-end.ensures in
+    let same = c.if-end-from.true in
+    let ns = numbers a.cache.now.entries in
+    let some = c.law_missing_is_exact.ensures.some ns a.from (a.range.last / 16384 + 1 - a.from) a.from (omega arith) (omega (arith, c.requires.ends)) gone in
+    let count = touched a.range in
+    elim (cases_lt c.run_end-end.result c.min-2.result) [
+      | inl short ↦ absurd (false≢true (sym gone ∙ ap (λ n. has n ns) (sym same) ∙ run.ends short))
+      | inr far ↦ omega (arith, far, same, some, count, c.capacity.ensures.exact, c.present.ensures, c.requires.begins, c.requires.ends, c.min.ensures, c.min-2.ensures)
+    ]

@@ -5,6 +5,7 @@ use Rattle.read_command.specs.declared.reading.Asked.{Asked}
 use Rattle.read_command.specs.Text.{IsFor}
 use Rattle.read_command.specs.Exchanges.{IsAskedFor}
 use Rattle.read_command.proofs.OpenLemmas.{asks_query, asks_same, description_part, ends_for, ends_of, query_part, opened_reads, reads_more, stops_more}
+use Rattle.read_command.proofs.UsedLemmas.{answered_for}
 use Rattle.http_range.specs.Book.{Publication}
 use Rattle.read_command.proofs.reading.Exchanges.fetch_asked.Goals.{in-Query, in-Description}
 use Rattle.read_command.proofs.reading.Exchanges.fetch_asked.Goals as goal
@@ -50,3 +51,12 @@ returns-clause-queries g c =
       | in-Description w ↦ subst (λ (a : Asked). IsAskedFor a c.match-asked.query) (sym w.in-Description.is) w.query-is
     ] in
     reads_more c.args.asked c.match-asked.query c.args.client.now c.args.client.now c.open.new.self c.fetch.new.client for (zero, refl) c.open.ensures c.in_ok-fetch.ensures.fetches
+
+pub returns-clause-answered : goal.returns-clause-answered
+returns-clause-answered g c = λ book reads.
+    let is = asks_query _ _ c.match-asked.query c.args.client.now c.open.new.self c.fetch.new.client c.open.ensures c.fetch.ensures.keeps in
+    let other : (part : APart) → c.args.asked ≢ Part part = elim c.match-asked.branch [
+      | in-Query w ↦ λ part same. query_part _ part (sym w.in-Query.is ∙ same)
+      | in-Description w ↦ λ part same. description_part _ part (sym w.in-Description.is ∙ same)
+    ] in
+    answered_for c.args.asked c.fetch.new.client _ _ other (ends_of c.match-asked.query c.fetch.new.client _ _ is c.in_ok-fetch.ensures.ends)

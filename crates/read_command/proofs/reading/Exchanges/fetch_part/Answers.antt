@@ -3,6 +3,7 @@ use Rattle.tiff_dir.specs.declared.query.Query.TheVariants.{Info}
 use Rattle.read_command.specs.declared.reading.Asked.TheVariants.{Part}
 use Rattle.read_command.proofs.OpenLemmas.{asks_query, asks_same, asks_part, ended_early, ended_part, opened_query, opened_reads, reads_more, replaced, replaced_more, stops_more}
 use Rattle.read_command.proofs.FetchLemmas.{none_fetched}
+use Rattle.read_command.proofs.UsedLemmas.{answered_early, answered_part, opened_tag, used_one}
 use Rattle.read_command.proofs.reading.Exchanges.fetch_part.Goals as goal
 
 pub returns-in_err-fetch-clause-reads : goal.returns-in_err-fetch-clause-reads
@@ -43,6 +44,13 @@ loop-preserved g c = record {
   queries =
       let first = reads_more (Part c.args.part) Info c.args.client.now c.loop.client c.open.new.self c.fetch.new.client (inl refl) c.loop.invariant.queries c.open.ensures c.in_ok-fetch.ensures.fetches in
       reads_more (Part c.args.part) c.in-Some.given.window c.args.client.now c.fetch.new.client c.open-in-loop.new.self c.fetch-in-loop.new.client (inr c.in-Some.ensures.asked) first c.open-in-loop.ensures c.in_ok-fetch-2.ensures.fetches;
+  used = λ book reads.
+      let first = c.fetch.ensures.keeps.reads book (opened_reads _ Info c.loop.client c.open.new.self book c.open.ensures (c.loop.invariant.reads book reads)) in
+      let second = c.fetch-in-loop.ensures.keeps.reads book (opened_reads _ c.in-Some.given.window c.fetch.new.client c.open-in-loop.new.self book c.open-in-loop.ensures first) in
+      let one = used_one _ _ c.in-Some.tag c.fetch.new.client c.open-in-loop.new.self c.fetch-in-loop.new.client c.in_ok-fetch-2.ensures.more c.in_ok-fetch-2.ensures.still
+      (opened_tag c.in-Some.given.window c.fetch.new.client c.open-in-loop.new.self c.open-in-loop.ensures) (c.in-Some.ensures.tagged book first.agrees)
+      (c.has_another_tag.ensures.tagged book second.agrees c.if-not-has_another_tag.false) in
+      omega (arith, c.loop.invariant.used book reads, c.in_ok-fetch.ensures.more, one);
   replaced =
       let a = Part c.args.part in
       let sides = reads_more a Info c.loop.client c.loop.client c.open.new.self c.fetch.new.client (inl refl) (zero, refl) c.open.ensures c.in_ok-fetch.ensures.fetches in
@@ -94,3 +102,16 @@ pub returns-clause-ends : goal.returns-clause-ends
 returns-clause-ends g c =
     let again = reads_more (Part c.args.part) Info c.loop.client c.loop.client c.open-2.new.self c.open-2.new.self (inl refl) (zero, refl) c.open-2.ensures (none_fetched c.open-2.new.self) in
     inr (inr (c.loop.counter, c.loop.client, c.loop-test.false, c.loop.invariant.replaced, again))
+
+pub returns-in_default-clause-answered : goal.returns-in_default-clause-answered
+returns-in_default-clause-answered g c = λ book reads.
+    let is = asks_query _ _ Info c.loop.client c.open.new.self c.fetch.new.client c.open.ensures c.fetch.ensures.keeps in
+    answered_early c.args.part Info c.fetch.new.client _ _ is (search rules) c.in_ok-fetch.ensures.ends
+
+pub returns-then-not-has_another_tag-clause-answered : goal.returns-then-not-has_another_tag-clause-answered
+returns-then-not-has_another_tag-clause-answered g c = λ book reads.
+    let is = asks_query _ _ c.in-Some.given.window c.fetch.new.client c.open-in-loop.new.self c.fetch-in-loop.new.client c.open-in-loop.ensures c.fetch-in-loop.ensures.keeps in
+    answered_part c.args.part c.in-Some.given.window c.fetch-in-loop.new.client _ _ is c.in-Some.ensures.window c.in_ok-fetch-2.ensures.ends
+
+pub returns-clause-answered : goal.returns-clause-answered
+returns-clause-answered g c = λ book reads. inl (omega (arith, c.loop-test.false, c.loop.invariant.used book reads))
