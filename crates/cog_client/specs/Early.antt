@@ -10,7 +10,7 @@ use Rattle.range_cache.specs.Cache.{numbers}
 use Rattle.range_cache.specs.Numbers.{has}
 use Rattle.cog_reader.specs.declared.ahead.TheConstants.{MAX_BLOCKS}
 use Rattle.cog_reader.specs.Going.{OneTouches}
-use Rattle.cog_reader.specs.Early.{AreApart, IsRunIn, LeavesNothing}
+use Rattle.cog_reader.specs.Early.{AreApart, IsRunIn, LeavesNothing, LeavesNothingInReach}
 use Rattle.cog_client.specs.Client.{ClientState, Knows, ahead_of, asked_of, blocks_of, closes, fields_of, host_of, name_of, reader_of, revision_of, tag_of, to_come}
 use Rattle.cog_client.specs.Calls.{request_for}
 
@@ -46,6 +46,10 @@ AsksNothingEarly c = (closes c ≡ true) ⊎ (ahead_of c ≡ 0)
 abbrev pub LeaveNothing : ClientState → List Span → Type 0
 LeaveNothing c spans = IfSome (reader_of c) (λ w. IfSome (asked_of c) (λ asked. All (LeavesNothing w asked spans) spans))
 
+-- Nothing in reach of what the client's reader wants from now on is left out of these spans.
+abbrev pub LeaveNothingInReach : ClientState → List Span → Type 0
+LeaveNothingInReach c spans = IfSome (reader_of c) (λ w. IfSome (asked_of c) (λ asked. LeavesNothingInReach w asked spans))
+
 -- Such spans, each of which lies behind all those before it, and nothing is left out between them; there are none where nothing is asked
 -- early.
 pub record AreEarly (c : ClientState) (spans : List Span) : Type 0 where
@@ -64,3 +68,8 @@ pub record AreEarlyRequests (c : ClientState) (texts : List (List ℕ)) : Type 0
   pub spans : List Span
   pub early : AreEarly c spans
   pub asks : AllZip (IsRequestFor c) spans texts
+
+-- They are requests for such spans, and nothing in reach is left out of these, where the client asks early.
+pub record AreAllInReach (c : ClientState) (texts : List (List ℕ)) : Type 0 where
+  pub requests : AreEarlyRequests c texts
+  pub end : ¬ AsksNothingEarly c → LeaveNothingInReach c requests.spans

@@ -1,5 +1,5 @@
 -- What a call from C does to the client of its handle, and to the caller's room.
-use Rattle.std.specs.Prelude.{◌≡◌, ◌⊎◌, ℕ, ℤ, pos, List, [], ◌++◌, Option, Some, None, IsSome, slice_get}
+use Rattle.std.specs.Prelude.{◌≡◌, ◌⊎◌, ◌+◌, ◌<◌, ◌≤◌, ◌^◌, ℕ, ℤ, pos, List, [], ◌++◌, Option, Some, None, IsSome, length, slice_get}
 use Rattle.cog_client.specs.declared.error.ClientError.{ClientError}
 use Rattle.cog_client.specs.declared.error.UrlError.{UrlError}
 use Rattle.http_fields.specs.declared.request_fields.FieldError.{FieldError}
@@ -12,7 +12,7 @@ use Rattle.cog_client.specs.Client.{ClientState, IsClientRefusal, IsUrlRefusal, 
 use Rattle.cog_client.specs.FedClient.{Fed}
 use Rattle.cog_client.specs.AnswerPhase.{rest_dropped}
 use Rattle.cog_client.specs.Keeps.{AddsField, RequestsKeeping, StopsAsking, StopsDelivery}
-use Rattle.cog_client.specs.Early.{AreEarlyRequests, AsksNothingEarly}
+use Rattle.cog_client.specs.Early.{AreAllInReach, AreEarlyRequests, AsksNothingEarly}
 use Rattle.delgunsai_c.specs.declared.failure.Failure.{Failure}
 use Rattle.delgunsai_c.specs.declared.failure.Failure.TheVariants.{Memory, NoClient}
 use Rattle.delgunsai_c.specs.Failure.{code_of, failure_in, failure_of_field, failure_of_url}
@@ -142,11 +142,12 @@ ChecksOr room left told old new =
 
 -- ---- a later request
 
--- The client stays, and the request is given that stands at this place among those that it makes early, if so many are known. Want of
--- memory is told only where it may make some.
+-- The client stays, and the request is given that stands at this place among those that it makes early, if so many are known. Where
+-- they are fewer, nothing in reach is left out of them. Want of memory is told only where it may make some.
 pub record Foretells (index : ℕ) (room left : List ℕ) (told : ℤ) (old new : ClientState) : Type 0 where
   pub texts : List (List ℕ)
   pub early : AreEarlyRequests old texts
+  pub end : index + 1 < 2 ^ 32 → length texts ≤ index → AreAllInReach old texts
   pub gives : Gives (slice_get texts index) room left told
   pub stays : new ≡ old
 

@@ -1,10 +1,10 @@
 //! The requests that may be sent before the answer to the last one came.
-ghost use Rattle.std.specs.Prelude.{◌≡◌, ◌≤◌, [], IfOk, IsOk, length, map};
+ghost use Rattle.std.specs.Prelude.{◌≡◌, ◌<◌, ◌≤◌, [], IfOk, IsOk, length, map};
 ghost use Rattle.std.specs.List.{All};
 ghost use Rattle.cog_reader.specs.Early.{AreApart};
 ghost use Rattle.cog_client.specs.declared.request_options.TheConstants.{REQUEST_LIMIT, URL_REQUEST_LIMIT};
 ghost use Rattle.cog_client.specs.Client.{IsPlain};
-ghost use Rattle.cog_client.specs.Early.{AreEarlyRequests, AsksNothingEarly, IsEarly, LeaveNothing};
+ghost use Rattle.cog_client.specs.Early.{AreAllInReach, AreEarlyRequests, AsksNothingEarly, IsEarly, LeaveNothing, LeaveNothingInReach};
 
 use crate::client::Client;
 use cog_reader::early_spans;
@@ -27,6 +27,9 @@ impl Client {
         ensures short { IfOk result (λ texts. All (λ text. IsPlain self.now → length text.items ≤ REQUEST_LIMIT) texts.items) }
         ensures long { IfOk result (λ texts. All (λ text. length text.items ≤ URL_REQUEST_LIMIT) texts.items) }
         ensures sure { AsksNothingEarly self.now → IsOk result }
+        // Where they are fewer, nothing in reach is left out.
+        ensures end { IfOk result (λ texts. length texts.items < most
+            → AreAllInReach self.now (map (λ text. text.items) texts.items)) }
     {
         law_requests_are_short();
         let spans = self.spans_early(most)?;
@@ -45,6 +48,8 @@ impl Client {
         ensures none { AsksNothingEarly self.now → IfOk result (λ spans. spans.items ≡ []) }
         ensures few { IfOk result (λ spans. length spans.items ≤ most) }
         ensures sure { AsksNothingEarly self.now → IsOk result }
+        ensures end { IfOk result (λ spans. length spans.items < most → ¬ AsksNothingEarly self.now
+            → LeaveNothingInReach self.now spans.items) }
     {
         let (Some(asked), Some(source)) = (self.asked, &self.source) else {
             return Ok(Vec::new(self.alloc));

@@ -1,4 +1,4 @@
-use Rattle.std.proofs.Common.{rules, ◌≡◌, ◌<◌, ◌≤◌, ℕ, List, Vec, Global, Some, None, get_or, length, map, refl, inl, ap, ◌∙◌}
+use Rattle.std.proofs.Common.{rules, ◌≡◌, ◌<◌, ◌≤◌, ℕ, List, Vec, Global, Some, None, arith, get_or, length, length-map, map, refl, inl, ap, ◌∙◌}
 use Rattle.std.specs.Prelude.{slice_get}
 use Rattle.std.specs.Option.{option_map}
 use Rattle.std.proofs.lemmas.Option.{slice_get-map, slice_get_past, slice_get_read}
@@ -22,6 +22,7 @@ returns-in-Some c =
     inl (record {
       texts = bytes_of texts;
       early = c.in-Ok.ensures.requests;
+      end = λ less none. absurd (omega (arith, below, none, length-map texts (λ (t : Vec ℕ Global). t.items)));
       gives = rw found (search rules);
       stays = refl;
     })
@@ -38,6 +39,7 @@ returns c =
     inl (record {
       texts = bytes_of texts;
       early = c.in-Ok.ensures.requests;
+      end = λ less none. c.in-Ok.ensures.end (omega (arith, past, less, c.saturating_add-index.ensures));
       gives = rw none (refl, refl);
       stays = refl;
     })
