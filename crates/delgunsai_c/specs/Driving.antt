@@ -1,18 +1,15 @@
 -- What a driver's call from C does to what its handle holds, and what it says in numbers.
-use Rattle.std.specs.Prelude.{◌≡◌, ◌⊎◌, ◌≤◌, ℕ, ℤ, pos, Bool, true, false, if◌then◌else◌, List, [], length, take, Option, None, Some, Result, Ok, Err}
-use Rattle.client_connection.specs.Status.{Status, after_gone, after_open, after_write, over}
-use Rattle.cog_client.specs.declared.delivered.Current.{Current}
-use Rattle.cog_client.specs.Check.{check_of}
-use Rattle.client_dialogue.specs.Checking.{ChecksBy, IsCheckOf}
-use Rattle.client_dialogue.specs.Goes.{BeginsAnew, Fails, Goes, MakesNone, Says, rounds_of}
-use Rattle.client_dialogue.specs.History.{Talk}
+use Rattle.std.specs.Prelude.{◌≡◌, ◌⊎◌, ◌≤◌, ℕ, ℤ, pos, Bool, if◌then◌else◌, List, [], length, take, Option, None, Some, Result, Ok, Err}
+use Rattle.client_connection.specs.Status.{Status}
+use Rattle.client_dialogue.specs.Checking.{ChecksBy}
+use Rattle.client_dialogue.specs.Goes.{Fails, Goes, Says, rounds_of}
 use Rattle.client_dialogue.specs.declared.check.CheckStep.{CheckStep}
 use Rattle.client_dialogue.specs.declared.check.CheckStep.TheVariants as check
 use Rattle.client_dialogue.specs.declared.step.Step.{Step}
 use Rattle.client_dialogue.specs.declared.step.Step.TheVariants.{Connect, Exchanged, Look, More, Over, Read, Write}
 use Rattle.extents.specs.declared.memory.Memory.{Memory as NoMemory}
 use Rattle.delgunsai_c.specs.declared.driving.NextStep.{NextStep}
-use Rattle.delgunsai_c.specs.declared.failure.Failure.TheVariants.{Memory, NoClient, Order}
+use Rattle.delgunsai_c.specs.declared.failure.Failure.TheVariants.{Memory, NoClient}
 use Rattle.delgunsai_c.specs.declared.held.Held.{Held}
 use Rattle.delgunsai_c.specs.Failure.{code_of}
 use Rattle.delgunsai_c.specs.Said.{said_of_current, said_of_delivered}

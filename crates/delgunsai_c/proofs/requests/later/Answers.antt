@@ -1,5 +1,6 @@
-use Rattle.std.proofs.Common.{rules, ◌≡◌, ◌<◌, ◌≤◌, ℕ, List, Vec, Global, Some, None, arith, get_or, length, length-map, map, refl, inl, ap, ◌∙◌}
+use Rattle.std.proofs.Common.{rules, ◌≡◌, ◌<◌, ◌≤◌, ℕ, List, Vec, Global, Some, None, arith, get_or, length, map, refl, inl, ap, ◌∙◌}
 use Rattle.std.specs.Prelude.{slice_get}
+use Rattle.std.proofs.lemmas.List.{length-map}
 use Rattle.std.specs.Option.{option_map}
 use Rattle.std.proofs.lemmas.Option.{slice_get-map, slice_get_past, slice_get_read}
 use Rattle.delgunsai_c.proofs.requests.later.Goals as goal
@@ -39,7 +40,7 @@ returns c =
     inl (record {
       texts = bytes_of texts;
       early = c.in-Ok.ensures.requests;
-      end = λ less none. c.in-Ok.ensures.end (omega (arith, past, less, c.saturating_add-index.ensures));
+      end = λ less none. c.in-Ok.ensures.end (omega (arith, past, less, c.saturating_add.ensures));
       gives = rw none (refl, refl);
       stays = refl;
     })
