@@ -1,10 +1,9 @@
 -- Which connections change in turns, step by step.
-use Rattle.std.proofs.Common.{◌≡◌, ◌≢◌, ◌∙◌, ◌+◌, ◌<◌, ◌≤◌, ◌⊎◌, ◌++◌, ℕ, List, [], ◌∷◌, Option, None, Some, append_assoc, ap, arith, drop, get_or, inl, inr, length, refl, subst, sym, take, take-append-drop}
+use Rattle.std.proofs.Common.{◌≡◌, ◌≢◌, ◌∙◌, ◌+◌, ◌<◌, ◌++◌, ℕ, List, ◌∷◌, Option, None, Some, append_assoc, ap, arith, drop, get_or, inl, inr, length, refl, subst, sym, take, take-append-drop}
 use Rattle.std.specs.Prelude.{Contains, IfSome, IsSomeAnd, true}
 use Rattle.std.proofs.lemmas.Bool.{cases_eq}
-use Rattle.std.proofs.lemmas.List.{append-nil, drop_more}
-use Rattle.std.proofs.lemmas.List.Elements.{Contains-append_right, Contains-get_or, Contains-push_cases}
-use Rattle.std.proofs.lemmas.Option.{none-some}
+use Rattle.std.proofs.lemmas.List.{drop_more}
+use Rattle.std.proofs.lemmas.List.Elements.{Contains-append_right, Contains-get_or}
 use Rattle.cog_server.specs.Additions.{ServiceState}
 use Rattle.server_connections.specs.declared.timed.Timed.{Timed}
 use Rattle.server_connections.specs.Table.{OthersStay, Table, timed_at}
@@ -20,7 +19,7 @@ use Rattle.server_sockets.proofs.GoingLemmas.{all_on}
 -- ---- connections
 
 -- who changes at first, or then, is one of these
-pub changes_on : (P : ℕ → Type 0) (a b c : Table) → ChangesOnly P a b → ChangesOnly P b c → ChangesOnly P a c
+changes_on : (P : ℕ → Type 0) (a b c : Table) → ChangesOnly P a b → ChangesOnly P b c → ChangesOnly P a c
 changes_on P a b c first then k =
     elim (first k) [
       | inl is ↦ inl is
@@ -31,7 +30,7 @@ changes_on P a b c first then k =
     ]
 
 -- and so it is one of more
-pub changes_for : (P Q : ℕ → Type 0) (a b : Table) → ((k : ℕ) → P k → Q k) → ChangesOnly P a b → ChangesOnly Q a b
+changes_for : (P Q : ℕ → Type 0) (a b : Table) → ((k : ℕ) → P k → Q k) → ChangesOnly P a b → ChangesOnly Q a b
 changes_for P Q a b f changes k =
     elim (changes k) [
       | inl is ↦ inl (f k is)
@@ -39,7 +38,7 @@ changes_for P Q a b f changes k =
     ]
 
 -- one changes, and it is one of these
-pub changes_one : (P : ℕ → Type 0) (n : ℕ) (a b : Table) → OthersStay n a b → P n → ChangesOnly P a b
+changes_one : (P : ℕ → Type 0) (n : ℕ) (a b : Table) → OthersStay n a b → P n → ChangesOnly P a b
 changes_one P n a b others is k =
     elim (cases_eq k n) [
       | inl same ↦ inl (subst P (sym same) is)
@@ -57,30 +56,22 @@ changes_none P a k = inr refl
 -- ---- drains
 
 -- each drain was there at first, or then, or is of one of these
-pub drains_on : (P : ℕ → Type 0) (a b c : List Drain) → DrainsOnly P a b → DrainsOnly P b c → DrainsOnly P a c
+drains_on : (P : ℕ → Type 0) (a b c : List Drain) → DrainsOnly P a b → DrainsOnly P b c → DrainsOnly P a c
 drains_on P a b c first then drain there =
     elim (then drain there) [
       | inl was ↦ first drain was
       | inr is ↦ inr is
     ]
 
-pub drains_for : (P Q : ℕ → Type 0) (a b : List Drain) → ((k : ℕ) → P k → Q k) → DrainsOnly P a b → DrainsOnly Q a b
+drains_for : (P Q : ℕ → Type 0) (a b : List Drain) → ((k : ℕ) → P k → Q k) → DrainsOnly P a b → DrainsOnly Q a b
 drains_for P Q a b f only drain there =
     elim (only drain there) [
       | inl was ↦ inl was
       | inr is ↦ inr (f drain.number is)
     ]
 
-pub drains_none : (P : ℕ → Type 0) (a : List Drain) → DrainsOnly P a a
+drains_none : (P : ℕ → Type 0) (a : List Drain) → DrainsOnly P a a
 drains_none P a drain there = inl there
-
--- one more
-pub drains_push : (P : ℕ → Type 0) (a b : List Drain) (new : Drain) → b ≡ a ++ new ∷ [] → P new.number → DrainsOnly P a b
-drains_push P a b new is one drain there =
-    elim (Contains-push_cases a new drain (subst (λ l. Contains l drain) is there)) [
-      | inl was ↦ inl was
-      | inr this ↦ inr (subst (λ (d : Drain). P d.number) this one)
-    ]
 
 -- one that is there after some went was there before
 there_before : (i : ℕ) (drains : List Drain) (drain : Drain) → Contains (drop i drains) drain → Contains drains drain
@@ -102,13 +93,8 @@ drained_on now i first then a b c is before after =
 
 -- ---- the queue
 
-pub begins_all : (queue : List ℕ) → BeginsWith queue queue
-begins_all queue = ([], sym (append-nil queue))
-
-pub begins_push : (a b : List ℕ) (n : ℕ) → b ≡ a ++ n ∷ [] → BeginsWith b a
-begins_push a b n is = (n ∷ [], is)
-
-pub begins_on : (a b c : List ℕ) → BeginsWith b a → BeginsWith c b → BeginsWith c a
+-- what it began with at first, it begins with in the end
+begins_on : (a b c : List ℕ) → BeginsWith b a → BeginsWith c b → BeginsWith c a
 begins_on a b c first then =
     (first.0 ++ then.0, then.1 ∙ ap (λ l. l ++ then.0) first.1 ∙ append_assoc a first.0 then.0)
 
@@ -117,14 +103,14 @@ next_of_queue : (i : ℕ) (before queue : List ℕ) → i < length before → (b
 next_of_queue i before queue within begins = begins.1 ∙ ap (λ l. l ++ begins.0) (drop_more before i 0 within)
 
 -- the next one that is taken from the queue was in it before
-pub taken_was_queued : (i n : ℕ) (before queue rest : List ℕ) → i < length before → BeginsWith queue (drop i before) → queue ≡ n ∷ rest
+taken_was_queued : (i n : ℕ) (before queue rest : List ℕ) → i < length before → BeginsWith queue (drop i before) → queue ≡ n ∷ rest
     → Contains before n
 taken_was_queued i n before queue rest within begins is =
     subst (Contains before) (ap (λ l. get_or l 0 0) (sym (next_of_queue i before queue within begins) ∙ is))
     (Contains-get_or before i 0 within)
 
 -- and those that are left were
-pub left_in_queue : (i n : ℕ) (before queue rest : List ℕ) → i < length before → BeginsWith queue (drop i before) → queue ≡ n ∷ rest
+left_in_queue : (i n : ℕ) (before queue rest : List ℕ) → i < length before → BeginsWith queue (drop i before) → queue ≡ n ∷ rest
     → BeginsWith rest (drop (i + 1) before)
 left_in_queue i n before queue rest within begins is =
     (begins.0, ap (drop 1) (sym is ∙ next_of_queue i before queue within begins))
@@ -159,7 +145,7 @@ tries_one now n a b is others drains = record {
 -- ---- connections that are overdue
 
 -- one that is overdue, and was as it is
-pub overdue_before : (P : Timed → Type 0) (a b : Option Timed) → b ≡ a → IsSomeAnd b P → IsSomeAnd a P
+overdue_before : (P : Timed → Type 0) (a b : Option Timed) → b ≡ a → IsSomeAnd b P → IsSomeAnd a P
 overdue_before P a b same is = subst (λ (o : Option Timed). IsSomeAnd o P) same is
 
 -- where some are closed that are overdue, and then more are
@@ -208,7 +194,6 @@ module _ (service : ServiceState) (now : ℕ) (a b c d e : Serving) (limits : li
     (drained : ChangesOnly (HasDrained now (drains_of c)) (slots_of c) (slots_of d))
     (limits_then : limits_of d ≡ limits_of a)
     (freed : ChangesOnly (IsOverdueAt service.catalogue now (limits_of d).patience (slots_of d)) (slots_of d) (slots_of e)) where
-
   -- why one may be closed
   abbrev May : ℕ → Type 0
   May = MayClose service.catalogue now a tries.tried

@@ -29,22 +29,23 @@ HasDrained now drains k = Any (λ drain. (drain.number ≡ k) × (drain.ends ≤
 abbrev pub IsOverdueAt : Catalogue → ℕ → ℕ → Table → ℕ → Type 0
 IsOverdueAt catalogue now patience table k = IsSomeAnd (timed_at k table) (λ p. is_overdue catalogue now patience p ≡ true)
 
--- Of the sockets that are to be tried at this moment, the one that was tried the longest ago may be tried. No other connection changes,
--- and no other begins to drain.
+-- At most one socket is tried. Of those that are to be tried at this moment, it is the one that was tried the longest ago. No other
+-- connection changes, and no other begins to drain.
 pub record TriesAlone (now : ℕ) (old new : Serving) : Type 0 where
   pub tried : Option ℕ
   pub untried : IfSome tried (λ k. IsUntried now (limits_of old).patience (slots_of old) (Some k))
   pub changes : ChangesOnly (λ k. tried ≡ Some k) (slots_of old) (slots_of new)
   pub drains : DrainsOnly (λ k. tried ≡ Some k) (drains_of old) (drains_of new)
 
--- why a connection may lose its slot in turns: it was queued for its turn, its drain has ended, its socket was tried, or it is overdue
+-- A connection may lose its slot in turns for one of these reasons. It was queued for its turn, its drain has ended, its socket was
+-- tried, or it is overdue.
 abbrev pub MayClose : Catalogue → ℕ → Serving → Option ℕ → ℕ → Type 0
 MayClose catalogue now old tried k =
     Contains (ready_of old) k ⊎ (HasDrained now (drains_of old) k
     ⊎ ((tried ≡ Some k) ⊎ IsOverdueAt catalogue now (limits_of old).patience (slots_of old) k))
 
--- No connection loses its slot in turns, or changes, for another reason. First those that were queued have their turns. Then at most one
--- socket is tried. Of those that are to be tried then, it is the one that was tried the longest ago.
+-- No connection loses its slot in turns, or changes, for another reason. First each that was queued has its turn, and no other changes.
+-- Then at most one socket is tried. Of those that are to be tried then, it is the one that was tried the longest ago.
 pub record ClosesOnly (service : ServiceState) (now : ℕ) (old new : Serving) : Type 0 where
   pub turned : Table
   pub went : AllWentOn service now (slots_of old) turned
