@@ -6,3 +6,4 @@ pub mod RefusalLemmas
 pub mod RunLemmas
 pub mod TurnLemmas
 pub mod WriteLemmas
+pub mod ClosingLemmas

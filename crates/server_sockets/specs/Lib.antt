@@ -4,3 +4,4 @@ pub mod Turns
 pub mod Draining
 pub mod Waits
 pub mod Going
+pub mod Closings

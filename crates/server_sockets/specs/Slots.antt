@@ -9,6 +9,7 @@ use Rattle.server_connections.specs.Table.{Table, timed_at}
 use Rattle.server_connections.specs.Yielding.{MayYield, TriesAt, WakesAt, Yields}
 use Rattle.server_sockets.specs.Turns.{HasStartedAt}
 use Rattle.server_sockets.specs.Waits.{IsQueued, sockets_of}
+use Rattle.server_sockets.specs.declared.drain.Drain.{Drain}
 use Rattle.server_sockets.specs.declared.events.TheConstants.{LISTENER}
 use Rattle.server_sockets.specs.declared.serving.Limits.{Limits}
 use Rattle.server_sockets.specs.declared.serving.Serving.{Serving}
@@ -36,6 +37,14 @@ slots_of s = s.open_connections.connections.table.entries
 -- how many slots there are
 abbrev pub slot_count : Serving → ℕ
 slot_count s = s.open_connections.connections.table.cap
+
+-- the connections that are queued for their turn, the next one first
+abbrev pub ready_of : Serving → List ℕ
+ready_of s = s.ready.items
+
+-- the connections that drain, each with the moment at which its drain ends
+abbrev pub drains_of : Serving → List Drain
+drains_of s = s.drains.items
 
 -- the number of the next one that gets a slot
 abbrev pub next_of : Serving → ℕ

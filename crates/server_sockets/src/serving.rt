@@ -7,9 +7,10 @@ ghost use Rattle.cog_server.specs.Service.{service_of};
 ghost use Rattle.server_connections.specs.Table.{OthersStay, Table, timed_at};
 ghost use Rattle.server_connections.specs.Yielding.{IsFirstOverdue};
 ghost use Rattle.mio.specs.Events.{capacity};
+ghost use Rattle.server_sockets.specs.Closings.{BeginsWith, ChangesOnly, ClosesOnly, DrainsOnly, HasDrained};
 ghost use Rattle.server_sockets.specs.Draining.{IsReadyAt, drain_of};
 ghost use Rattle.server_sockets.specs.Going.{AllWentOn};
-ghost use Rattle.server_sockets.specs.Slots.{AllStart, IsLookedAt, IsWaitedFor, HasNoSlot, KeepsAll, KeepsBusy, MayKeepOld, NoneChanges, NobodyComes, NobodyYields, Rests, StayOrStart, accepted_of, ended_of, limits_of, next_of, slots_of, slot_count, WakesBy, WakesIn};
+ghost use Rattle.server_sockets.specs.Slots.{AllStart, IsLookedAt, IsWaitedFor, HasNoSlot, KeepsAll, KeepsBusy, MayKeepOld, NoneChanges, NobodyComes, NobodyYields, Rests, StayOrStart, accepted_of, drains_of, ended_of, limits_of, next_of, ready_of, slots_of, slot_count, WakesBy, WakesIn};
 ghost use Rattle.server_sockets.specs.Refusals.{HasNoRoom, IsBarred, IsLasting, IsOfAsking, IsPassing};
 ghost use Rattle.server_sockets.specs.Turns.{GivesSlot, HasStartedAt, TriesOne};
 ghost use Rattle.server_sockets.specs.declared.refusal.AcceptError.TheVariants.{Accept};
@@ -186,6 +187,8 @@ impl Serving {
         // No connection is left that keeps bytes of a replaced file, has made no progress for the patience, and whose socket takes none.
         ensures freed { MayKeepOld service.now.server.now.count self.old
             → IsFirstOverdue (service_of service.now).catalogue now (limits_of self.old).patience (slots_of self.new) None }
+        // Each connection is as it was, unless it was queued, its drain has ended, its socket was tried, or it is overdue.
+        ensures closes { ClosesOnly (service_of service.now) now self.old self.new }
     {
         let may_keep_old = self.may_keep_old(service.server);
         let is_due = self.is_due(may_keep_old);
@@ -393,6 +396,8 @@ impl Serving {
         ensures others { OthersStay number (slots_of self.old) (slots_of self.new) }
         ensures nobody { NobodyComes self.old self.new }
         ensures went { AllWentOn (service_of service.now) now (slots_of self.old) (slots_of self.new) }
+        ensures queue { BeginsWith (ready_of self.new) (ready_of self.old) }
+        ensures drains_only { DrainsOnly (λ k. k ≡ number) (drains_of self.old) (drains_of self.new) }
     {
         let buffer = &mut self.buffer;
         let turn = self
@@ -417,6 +422,8 @@ impl Serving {
         ensures drains { turn ≡ Ended → OnOk result ((self.new.drains.items ≡ self.old.drains.items ++ drain_of now number ∷ [])
             ⊎ (timed_at number (slots_of self.new) ≡ None)) }
         ensures failed { turn ≡ Failed → timed_at number (slots_of self.new) ≡ None }
+        ensures queue { BeginsWith (ready_of self.new) (ready_of self.old) }
+        ensures drains_only { DrainsOnly (λ k. k ≡ number) (drains_of self.old) (drains_of self.new) }
     {
         match turn {
             Turn::Waits => {}
@@ -444,6 +451,7 @@ impl Serving {
         ensures noted { IsReadyAt number self.new.open_connections ⊎ (timed_at number (slots_of self.new) ≡ None) }
         ensures kept { slots_of self.new ≡ slots_of self.old }
         ensures drains { self.new.drains ≡ self.old.drains }
+        ensures queue { BeginsWith (ready_of self.new) (ready_of self.old) }
     {
         self.open_connections.note_ready(number);
         self.ready.push_back(number)?;
@@ -457,6 +465,7 @@ impl Serving {
         ensures same { NoneChanges self.old self.new }
         // The first drain that is left hasn't ended yet.
         ensures over { IfSome (slice_get self.new.drains.items 0) (λ drain. now < drain.ends) }
+        ensures closes { ChangesOnly (HasDrained now (drains_of self.old)) (slots_of self.old) (slots_of self.new) }
     {
         for _ in 0..self.drains.len() {
             if !self.end_drain(now) {
@@ -474,6 +483,7 @@ impl Serving {
         ensures over { result ≡ true → IsSomeAnd (slice_get self.old.drains.items 0) (λ drain. (drain.ends ≤ now)
             × (timed_at drain.number (slots_of self.new) ≡ None)) }
         ensures gone { result ≡ true → self.new.drains.items ≡ drop 1 self.old.drains.items }
+        ensures closes { ChangesOnly (HasDrained now (drains_of self.old)) (slots_of self.old) (slots_of self.new) }
     {
         match self.drains.front().copied() {
             Some(drain) if drain.ends <= now => {

@@ -2,6 +2,7 @@
 ghost use Rattle.std.specs.Prelude.{◌≡◌, ◌+◌, ◌<◌, ◌↔◌, IsTrue, None, Some, false, length, nat_eq, true};
 ghost use Rattle.std.specs.Map.{remove_entry};
 ghost use Rattle.server_connections.specs.Yielding.{FreesAt, IsFirstOverdue};
+ghost use Rattle.server_sockets.specs.Closings.{ChangesOnly, IsOverdueAt};
 ghost use Rattle.server_sockets.specs.Slots.{MayKeepOld, NobodyComes, NoneChanges, accepted_of, frees_of, limits_of, slots_of};
 
 use crate::serving::Serving;
@@ -31,6 +32,8 @@ impl Serving {
         ensures drains { self.new.drains ≡ self.old.drains }
         ensures freed { IsFirstOverdue server.now.catalogue now (limits_of self.old).patience (slots_of self.new) None }
         ensures next { FreesAt server.now.catalogue (limits_of self.old).patience (slots_of self.new) (frees_of self.new) }
+        ensures closes { ChangesOnly (IsOverdueAt server.now.catalogue now (limits_of self.old).patience (slots_of self.old))
+            (slots_of self.old) (slots_of self.new) }
     {
         loop {
             if !self.free_one(server, now) {
@@ -51,6 +54,8 @@ impl Serving {
         ensures taken { result ≡ true → length (slots_of self.new) + 1 ≡ length (slots_of self.old) }
         ensures no { result ≡ false → (self.new ≡ self.old)
             × IsFirstOverdue server.now.catalogue now (limits_of self.old).patience (slots_of self.old) None }
+        ensures closes { ChangesOnly (IsOverdueAt server.now.catalogue now (limits_of self.old).patience (slots_of self.old))
+            (slots_of self.old) (slots_of self.new) }
     {
         match self
             .open_connections

@@ -2,6 +2,7 @@
 //! seen.
 ghost use Rattle.std.specs.Prelude.{◌≡◌};
 ghost use Rattle.cog_server.specs.Additions.{ServiceState};
+ghost use Rattle.server_sockets.specs.Closings.{TriesAlone};
 ghost use Rattle.server_sockets.specs.Going.{AllWentOn};
 ghost use Rattle.server_sockets.specs.Slots.{NobodyComes, limits_of, slots_of};
 ghost use Rattle.server_sockets.specs.Turns.{TriesOne};
@@ -16,6 +17,8 @@ impl Serving {
         // Nothing is answered, by whatever service.
         ensures went { (service : ServiceState) → AllWentOn service now (slots_of self.old) (slots_of self.new) }
         ensures tried { TriesOne now (limits_of self.old).patience (slots_of self.old) (slots_of self.new) }
+        // No other connection changes, and no other begins to drain.
+        ensures alone { TriesAlone now self.old self.new }
     {
         let Some(number) = self.open_connections.untried(now, self.limits.patience) else {
             return;

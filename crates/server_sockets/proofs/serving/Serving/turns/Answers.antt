@@ -1,12 +1,62 @@
-use Rattle.std.proofs.Common.{subst, sym}
+use Rattle.std.proofs.Common.{◌≡◌, ◌∙◌, ◌+◌, ◌<◌, ℕ, arith, length, refl, subst, sym}
+use Rattle.cog_server.specs.Additions.{ServiceState}
 use Rattle.cog_server.specs.Service.{service_of}
 use Rattle.server_sockets.specs.declared.serving.Serving.{Serving}
+use Rattle.server_sockets.specs.Closings.{IsOverdueAt, TriesAlone}
 use Rattle.server_sockets.specs.Going.{AllWentOn}
-use Rattle.server_sockets.specs.Slots.{slots_of}
-use Rattle.server_sockets.proofs.GoingLemmas.{all_on}
-use Rattle.server_sockets.proofs.SlotLemmas.{went_still}
+use Rattle.server_sockets.specs.Slots.{NobodyComes, limits_of, ready_of, slots_of}
+use Rattle.server_sockets.proofs.ClosingLemmas.{Turned, changes_none, closing, queue_has_next, tries_none, turned_more}
+use Rattle.server_sockets.proofs.GoingLemmas.{all_on, all_still}
+use Rattle.server_sockets.proofs.SlotLemmas.{nobody_yet, went_still}
 use Rattle.server_sockets.proofs.serving.Serving.turns.Goals as goal
-use Rattle.server_sockets.proofs.serving.Serving.turns.Goals.{then-is_due, else-is_due}
+use Rattle.server_sockets.proofs.serving.Serving.turns.Goals.{then-is_due, else-is_due, in-Some, in_default}
+
+-- what became of the connections where a socket was tried, or none was
+abbrev Tries : ServiceState → ℕ → Serving → Serving → Type 0
+Tries service now turned tried =
+    TriesAlone now turned tried × AllWentOn service now (slots_of turned) (slots_of tried) × (limits_of tried ≡ limits_of turned)
+
+not_tried : (service : ServiceState) (now : ℕ) (turned : Serving) → Tries service now turned turned
+not_tried service now turned = (tries_none now turned, all_still service now (slots_of turned) (slots_of turned) (λ k p there. there), refl)
+
+pub loop-preserved : goal.loop-preserved
+loop-preserved g c =
+    let service = service_of c.args.service.now in
+    let first = c.args.self.now in
+    let before = c.loop.self in
+    let is = c.loop.invariant in
+    let popped : Serving = record before { ready = c.pop_front.new.self } in
+    let nobody : NobodyComes first popped = record {
+      slots = is.nobody.slots;
+      accepted = is.nobody.accepted;
+      room = is.nobody.room;
+      limits = is.nobody.limits;
+      ended = is.nobody.ended;
+    } in
+    let so_far : Turned service c.args.now c.loop.counter first before = record {
+      nobody = is.nobody;
+      went = is.went;
+      queue = is.queue;
+      queued = is.queued;
+      drains = is.drains;
+    } in
+    let within : c.loop.counter < length (ready_of first) = omega (arith, is.all, c.loop-test.true) in
+    let turned : Turned service c.args.now (c.loop.counter + 1) first c.match-pop_front.self =
+    elim c.match-pop_front.branch [
+      | in-Some w ↦ subst (Turned service c.args.now (c.loop.counter + 1) first) (sym w.self-is)
+          (turned_more service c.args.now c.loop.counter w.in-Some.number first before w.turn.new.self c.pop_front.new.self.items within so_far
+          w.in-Some.ensures.items (nobody_yet first popped w.turn.new.self nobody w.turn.ensures.nobody) w.turn.ensures.went
+          w.turn.ensures.others w.turn.ensures.queue w.turn.ensures.drains_only)
+      | in_default w ↦ absurd (queue_has_next c.loop.counter (ready_of first) (ready_of before) within is.queue (sym before.ready.ok.0 ∙ w.in_default.ensures.cases.0))
+    ] in
+    record {
+      nobody = turned.nobody;
+      went = turned.went;
+      all = is.all;
+      queue = turned.queue;
+      queued = turned.queued;
+      drains = turned.drains;
+    }
 
 pub returns-else-may_keep_old-clause-went : goal.returns-else-may_keep_old-clause-went
 returns-else-may_keep_old-clause-went g c =
@@ -34,3 +84,44 @@ returns-then-may_keep_old-clause-went g c =
     ] in
     let drained = went_still service now c.args.self.now c.if-is_due.self c.end_drains.new.self tried c.end_drains.ensures.same in
     went_still service now c.args.self.now c.end_drains.new.self c.free_old_files.new.self drained c.free_old_files.ensures.same
+
+pub returns-else-may_keep_old-clause-closes : goal.returns-else-may_keep_old-clause-closes
+returns-else-may_keep_old-clause-closes g c =
+    let service = service_of c.args.service.now in
+    let now = c.args.now in
+    let first = c.args.self.now in
+    let turned = c.loop.self in
+    let tried = c.if-is_due.self in
+    let drained = c.end_drains.new.self in
+    let is = c.loop.invariant in
+    let tries : Tries service now turned tried =
+    elim c.if-is_due.branch [
+      | then-is_due w ↦ subst (Tries service now turned) (sym w.self-is)
+          (w.try_socket.ensures.alone, w.try_socket.ensures.went service, w.try_socket.ensures.nobody.limits)
+      | else-is_due w ↦ subst (Tries service now turned) (sym w.self-is) (not_tried service now turned)
+    ] in
+    let goes_on = went_still service now turned tried drained tries.1 c.end_drains.ensures.same in
+    closing service now first turned tried drained drained is.nobody.limits is.queued is.drains tries.0 c.end_drains.ensures.closes
+    (c.end_drains.ensures.nobody.limits ∙ tries.2 ∙ is.nobody.limits)
+    (changes_none (IsOverdueAt service.catalogue now (limits_of drained).patience (slots_of drained)) (slots_of drained))
+    is.went goes_on
+
+pub returns-then-may_keep_old-clause-closes : goal.returns-then-may_keep_old-clause-closes
+returns-then-may_keep_old-clause-closes g c =
+    let service = service_of c.args.service.now in
+    let now = c.args.now in
+    let first = c.args.self.now in
+    let turned = c.loop.self in
+    let tried = c.if-is_due.self in
+    let drained = c.end_drains.new.self in
+    let is = c.loop.invariant in
+    let tries : Tries service now turned tried =
+    elim c.if-is_due.branch [
+      | then-is_due w ↦ subst (Tries service now turned) (sym w.self-is)
+          (w.try_socket.ensures.alone, w.try_socket.ensures.went service, w.try_socket.ensures.nobody.limits)
+      | else-is_due w ↦ subst (Tries service now turned) (sym w.self-is) (not_tried service now turned)
+    ] in
+    let goes_on = went_still service now turned tried drained tries.1 c.end_drains.ensures.same in
+    closing service now first turned tried drained c.free_old_files.new.self is.nobody.limits is.queued is.drains tries.0 c.end_drains.ensures.closes
+    (c.end_drains.ensures.nobody.limits ∙ tries.2 ∙ is.nobody.limits) c.free_old_files.ensures.closes
+    is.went (went_still service now turned drained c.free_old_files.new.self goes_on c.free_old_files.ensures.same)
