@@ -197,8 +197,10 @@ int64_t cog_client_request(struct cog_client *client, uint8_t *room, size_t leng
 /* cog_client_later: lays a request's text into the room, of those that may be sent before the answer to the one comes which
  * cog_client_request gave last: the one at place `index`, 0 for the next. It may be sent ahead of its time, on the same connection too; its
  * answer is taken once cog_client_request gives the same text. Another one may come in its place, as where the file is replaced or an
- * answer is cut. Gives the text's length; 0, where none is known, as before cog_client_request, cog_client_keep_open and
- * cog_client_look_ahead; COG_MEMORY or COG_NO_CLIENT. It changes nothing of the client. */
+ * answer is cut. Gives the text's length; 0, where there is none at this place; COG_MEMORY or COG_NO_CLIENT. It is always 0 before
+ * cog_client_request, cog_client_keep_open and cog_client_look_ahead. After them it is 0 only where each block in reach is there, or a
+ * request before this place asks for it. In reach are the byte ranges that are known to be needed, up to the first that lies before an
+ * earlier one in the file, or for which the cache has no room. It changes nothing of the client. */
 int64_t cog_client_later(struct cog_client *client, uint32_t index, uint8_t *room, size_t length);
 
 /* cog_client_begin: begins an answer to the request. An unfinished one is dropped. Gives 0 or COG_NO_CLIENT. */
