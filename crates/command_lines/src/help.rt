@@ -12,7 +12,7 @@ Example:
 A URL alone is described. In each command, http://HOST[:PORT]/PATH[?QUERY] or the path of a file of the disk may
 stand for SERVER NAME.
 
-A fault of the file is told as `fault N`, or as `fault N TAG` where it is about one field:
+A fault of the file is printed as `fault N`, or as `fault N TAG` where it is about one field:
    1  Header       No classic TIFF: the byte order or the number 42 is wrong
    2  PastEnd      Bytes that are needed end after the file
    3  DirPlace     A directory's offset is odd or below 8
@@ -38,14 +38,14 @@ Exit status:
   2  The words aren't those above, a URL names no file of a server, or `refused N`: 1 the server, 2 the name
      Or --bounds meets no pixel, or --bounds or --world stand and the file doesn't say where its pixels lie
   3  A fault of the file
-  4  `no report` stands after all requests";
+  4  `no report`: no request brought one";
 
 /// The text that `cogserve --help` prints after its options.
 pub const SERVE_NOTES: &str = "\
 Example:
   cogtools cogserve --listen 127.0.0.1:8080 --epoch 1 --connections 100 a.tif=/data/a.tif
 
-A file that isn't published is told as `refused N NAME`:
+A file that isn't published is printed as `refused N NAME`:
   1  The name has other bytes than A-Z a-z 0-9 . _ - / or not 1 to 200 of them
   2  The file is empty
   3  The file has more than 67108864 bytes
@@ -67,7 +67,7 @@ A FILE's name is the last part of its path, in which bytes that no name has beco
 refused. The URL of each file is printed, in a line of its own, and --announce-last is on. Where --listen, --epoch and
 --connections all stand, none of this holds: each file is NAME=PATH.
 
-A file that isn't published is told as `refused N NAME`:
+A file that isn't published is printed as `refused N NAME`:
   1  The name has other bytes than A-Z a-z 0-9 . _ - / or not 1 to 200 of them
   2  The file is empty
   3  The file has more than 67108864 bytes

@@ -140,12 +140,12 @@ fn add_flag_without<'a>(
 
 /// Appends the options that set limits: on requests, on the blocks of the cache, and on the blocks that are asked for early.
 fn add_amounts<'a>(alloc: Global, arguments: &mut Vec<Arg<'a>>) -> Result<(), AllocError> {
-    let help = "Makes at most N requests, 1 to 65536 (default 64)";
+    let help = "Makes at most N requests, 1 to 65536 (default 64; with a path 65536)";
     add_choice(alloc, arguments, "requests", "N", help)?;
     let help = "Keeps N blocks of 16384 bytes, 66 to 4096 (default 256)";
     add_choice(alloc, arguments, "blocks", "N", help)?;
     let help =
-        "Blocks that a request may ask for early, after those that are needed next, 0 to 64 (default 0; with a URL 64)";
+        "Blocks that a request may ask for early, after those that are needed next, 0 to 64 (default 0; with a URL or a path 64)";
     add_choice(alloc, arguments, "ahead", "N", help)
 }
 
