@@ -51,7 +51,7 @@
  *     several threads, one at a time under a lock. That is tested, and not proved.
  *   - malloc, realloc and free are of one allocator. No call is made from a signal handler, nor in the forked child of a process with
  *     threads.
- *   - A negative result is one of COG_..; the others are said with each call.
+ *   - A negative result is one of COG_.. or DELGUNSAI_..; the others are said with each call.
  *   - A room is memory for a text: the result is the length of the text. Where that is more than the room's length, nothing was
  *     written, and the call can be made again with a room of that length.
  *

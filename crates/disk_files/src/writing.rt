@@ -41,8 +41,8 @@ fn is_special<R: Files>(rt: &R, path: &str) -> bool {
     }
 }
 
-/// Replaces the file at `path` by one with `head` and then `rest`, once all of it stands in the new file `PATH.part`. After an error the
-/// old file is as it was. A path that leads to no plain file is written in place.
+/// Replaces the plain file at `path` by one with `head` and then `rest`, once all of it stands in the new file `PATH.part`. After an error
+/// the old file is as it was. A link, a device or a pipe is written in place instead, and after an error part of the bytes may be there.
 pub fn replace_file<R: Files + AllocGlobal>(
     rt: &R,
     path: &str,

@@ -118,8 +118,8 @@ impl Exit {
     ghost use Rattle.std.specs.Prelude.{is_ok};
     ghost use Rattle.programs.specs.Status.{EndsBy, EndsWith, HasStatus};
 
-    /// Returns the exit status. It is 0 for help and the version, 1 for files, sockets, publications and memory, and 2 for the command line
-    /// and scripts. It is 3 for a fault of the file that is read, and 4 where there is no report.
+    /// Returns the exit status. It is 0 for help and the version, 1 for files, sockets, publications and memory, and 2 for the command
+    /// line, and for a line of a script that is no event. It is 3 for a fault of the file that is read, and 4 where there is no report.
     pub fn status(&self) -> u8
         ensures { HasStatus self.now result }
     {

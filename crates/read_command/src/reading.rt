@@ -42,8 +42,8 @@ pub enum Asked {
 pub struct Exchanges<'a, R> {
     pub rt: &'a R,
     pub requests: u32,
-    /// Whether a URL names the file. Then the first answer ends the exchanges, if no later one is expected to be used. The program's line
-    /// explains a fault then, and so nothing else does.
+    /// Whether a URL or a path names the file. Then the first answer ends the exchanges, if no later one is expected to be used. The
+    /// program's line explains a fault then, and so nothing else does.
     pub is_url: bool,
 }
 
@@ -231,8 +231,9 @@ impl<R: Eprint + Clock + AllocGlobal> Exchanges<'_, R> {
 
     /// Reads what is asked over `noted`, and returns its text: a picture, whose samples the client lends, the lines of Info, or a
     /// description. It prints why there is no text, as the verbosity of `noted` says. Fails with `OfFile` where the report is a fault, and
-    /// with `NoReport` where no report has what is asked. Fails with `NoWindow` where a rectangle gives no window of the file. Fails with
-    /// `NotUsed` where a URL names the file and the first answer can't be used, and with `Memory` where no memory is left.
+    /// with `NoReport` where no report has what is asked. Fails with `NoWindow` where a rectangle gives no window of the file, and with
+    /// `NoWorld` where it gives no world file. Fails with `NotUsed` where `is_url` is set, and the first answer can't be used for a reason
+    /// that is expected to stay. Fails with `Memory` where no memory is left.
     pub fn text<'c, P: Pieces>(
         &self,
         client: &'c mut Client,
