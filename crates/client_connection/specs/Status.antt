@@ -4,7 +4,7 @@ use Rattle.std.specs.Str.{bytes_eq}
 use Rattle.http_range.specs.declared.frame.Frame.{Frame}
 use Rattle.http_range.specs.declared.reading.Why.TheVariants.{Cut, Head as NoHead}
 use Rattle.http_range.specs.Frame.{ReadsFrame, is_interim}
-use Rattle.client_connection.specs.Answers.{joined, IsNoAnswer}
+use Rattle.client_connection.specs.Answers.{joined, is_timeout, IsNoAnswer}
 use Rattle.client_connection.specs.declared.connection.TheConstants.{INTERIM_LIMIT}
 use Rattle.client_connection.specs.declared.parts.Turn.{Turn}
 use Rattle.client_connection.specs.declared.parts.Turn.TheVariants.{Anew, Sends, Sent}
@@ -69,7 +69,7 @@ after_write n s = record s { waits = drop n s.waits }
 
 -- ---- answers
 
--- what comes of a head with its last bytes
+-- What comes of a head with its last bytes. On a connection that was kept, a request is sent once more after what is no answer to it.
 abbrev pub TakesHead : Part → List ℕ → Status → Status → Type 0
 TakesHead Head head old new = ReadsFrame head (Err Cut) × (new ≡ record old { head = head })
 TakesHead Interim head old new =
@@ -78,9 +78,11 @@ TakesHead Interim head old new =
 TakesHead Begun head old new =
     (frame : Frame) × ReadsFrame head (Ok frame) × (length head ≡ frame.size) × (is_interim frame ≡ false)
     × (new ≡ record old { head = head; left = Some (unwrap_or frame.length 0); closes = frame.closes; interims = 0 })
+    × (old.kept ≡ true → is_timeout frame ≡ false)
 TakesHead Again head old new = (old.kept ≡ true) × IsNoAnswer head × (new ≡ over (take 1 old.out))
 TakesHead Refused head old new =
-    (ReadsFrame head (Err NoHead) ⊎ ((frame : Frame) × ReadsFrame head (Ok frame) × (is_interim frame ≡ true)))
+    ((ReadsFrame head (Err NoHead) × (old.kept ≡ false))
+    ⊎ ((frame : Frame) × ReadsFrame head (Ok frame) × (is_interim frame ≡ true) × (INTERIM_LIMIT ≤ old.interims)))
     × (new ≡ cut head)
 TakesHead part head old new = ⊥
 

@@ -9,7 +9,7 @@ use Rattle.client_connection.specs.declared.parts.Part.{Part}
 use Rattle.client_connection.specs.declared.parts.Part.TheVariants.{Again, Begun, Body, Head, Interim, Refused, Stray}
 use Rattle.client_connection.specs.declared.parts.Turn.{Turn}
 use Rattle.client_connection.specs.declared.parts.Turn.TheVariants.{Anew, Sends, Sent}
-use Rattle.client_connection.specs.Status.{Status, Takes, after_ask, after_finish, after_gone, after_open, after_write, is_again, is_empty, over, sends, turn_after, turn_of, turned, is_between}
+use Rattle.client_connection.specs.Status.{Status, Takes, after_ask, after_finish, after_gone, after_open, after_write, head_left, is_again, is_empty, over, sends, turn_after, turn_of, turned, is_between}
 use Rattle.client_connection.specs.Run.{AnswersAreInOrder, CanHappen, CanRun, Connection, Event, IsLive, IsNow, IsOrderly, IsUnderWay, Past, asks, happened, none_yet, run}
 use Rattle.client_connection.specs.Run.Event.{Asked, Came, Ended, Finished, Gone, Opened, SentEarly, Wrote}
 use Rattle.cog_client.specs.declared.delivered.Delivered.{Delivered}
@@ -17,14 +17,14 @@ use Rattle.cog_client.specs.AnswerPhase.{nothing_fed}
 use Rattle.cog_client.specs.Client.{ClientState, feed_of}
 use Rattle.cog_client.specs.FedClient.{AnswersBeginAnywhere, Fed}
 use Rattle.cog_client.specs.Keeps.{DeliversKeeping, RequestsKeeping, StopsAsking, StopsDelivery}
-use Rattle.client_dialogue.specs.History.{AreOwn, AreRounds, Exchange, History, IsHistory, IsPlaced, IsRound, IsSomewhere, IsUnder, Round, Talk, begun, connections_of, fed_of, past_of}
+use Rattle.client_dialogue.specs.History.{AreOwn, AreRounds, Exchange, History, IsFresh, IsHistory, IsPlaced, IsRound, IsSomewhere, IsUnder, Round, Talk, begun, connections_of, fed_of, past_of}
 use Rattle.client_dialogue.specs.History.Round.{LetGo, Made, Rested, Stopped, Unasked}
 use Rattle.client_dialogue.specs.Goes.{AreTaken, BeginsAnew, Continues, Fails, Goes, MakesNone, MakesOne, Stays, came_by}
 use Rattle.client_dialogue.specs.Inside.{Concludes, Feeds, Halts, HasGoneOn, IsConcluded, IsFedBy, IsHaltedBy, given_up}
 use Rattle.client_dialogue.specs.declared.step.Step.{Step}
 use Rattle.client_dialogue.specs.declared.step.Step.TheVariants.{Exchanged as AnExchange, More}
 use Rattle.client_dialogue.specs.Goes.{rounds_of}
-use Rattle.client_dialogue.proofs.HistoryLemmas.{IsQuiet, begun_goes, body_goes, build, can-end, ends_goes, few_at, halted_goes, live_of, made_goes, next, none_goes, own_next, quiet_goes, run-end, then_let_go, under_false, under_true}
+use Rattle.client_dialogue.proofs.HistoryLemmas.{IsQuiet, IsTextOf, begun_goes, begun_on, body_goes, both_true, build, can-end, ended_adds, ends_goes, few_at, gone_adds, halted_goes, live_of, made_goes, next, none_goes, open_fresh, own_next, quiet_goes, run-end, same_came, then_let_go, under_false, under_true}
 
 -- ---- queries
 
@@ -100,6 +100,17 @@ turned_left Sent text s e = e
 turned_left Sends text s e = e
 turned_left Anew text s e = refl
 
+turned_fresh : (turn : Turn) (text : List ℕ) (s : Status) → IsFresh s → IsFresh (turned turn text s)
+turned_fresh Sent text s h = h
+turned_fresh Sends text s h = h
+turned_fresh Anew text s h = λ shut. (refl, refl)
+
+ask_fresh : (text : List ℕ) (s : Status) → IsFresh (after_ask text s)
+ask_fresh text s = elim (cases_Bool (s.is_open && is_between s)) [
+  | inl both ↦ turned_fresh (turn_of text s) text s (open_fresh s (both_true s.is_open (is_between s) both).0)
+  | inr other ↦ rw other (λ shut. (refl, refl))
+]
+
 pub put_goes : AnswersBeginAnywhere → (t : Talk) (before c : ClientState) (text : List ℕ) → t.asked ≡ false → 0 < t.exchanges
     → RequestsKeeping before (Some text) c
     → Goes Stays [] t before (record { status = after_ask text t.status; asked = true; exchanges = t.exchanges - 1 }) c
@@ -116,6 +127,7 @@ put_goes begins t before c text idle some asks = λ start allowed h is.
             subst (λ (x : ClientState). RequestsKeeping x (Some text) c) u.0 asks,
             subst (λ (o : Option ℕ). Fed c (fed_of o (past_of h).front) c) (sym left) (begins c asks.seen.feed),
             turned_first (turn_of text t.status) text t.status refl,
+            ask_fresh text t.status,
           )
           (own_next (Asked text) (past_of h) h.rounds is.own) (omega (arith, few, some)),
     )
@@ -190,15 +202,27 @@ finished_goes order t c d what busy opens whole takes =
       (u.0, u.1, takes u.0 (past_of h).front fed),
       refl,
       (made, refl, refl),
-      (λ own. ((λ is. inl (placed_now (past_of h) h.request text u.3.0 what l out (append-nil (past_of h).front))), own)),
+      (λ own. (
+        inl (inl (
+          begun_on (past_of h) (happened Finished (past_of h)).now made u.3.0 [] l out refl (same_came (past_of h).now) ([], sym (append-nil text)),
+          (λ is. placed_now (past_of h) h.request text u.3.0 what l out (append-nil (past_of h).front)),
+        )),
+        own,
+      )),
     ))
+
+-- the connection is ended
+pub ended_goes : AnswersAreInOrder → (t : Talk) (c d : ClientState) (what : Delivered) → t.asked ≡ true → Concludes [] what c d
+    → Goes (MakesOne what) [] t c (given_up t) d
+ended_goes order t c d what busy takes =
+    made_goes order [] [] [] t c d (over []) Ended what busy tt (inl refl) tt (λ p same. refl) refl ended_adds (λ shut. refl) (inl refl) takes
 
 pub finish_goes : AnswersAreInOrder → (t : Talk) (c d : ClientState) (u : Talk) (what : Delivered) → t.asked ≡ true → t.status.is_open ≡ true
     → Concludes [] what c d → HasGoneOn what (record t { asked = false }) u → Goes (MakesOne what) [] t c u d
 finish_goes order t c d u what busy opens takes gone = elim gone [
   | inl went ↦ subst (λ (x : Talk). Goes (MakesOne what) [] t c x d) (sym went.1) (finished_goes order t c d what busy opens went.0 takes)
   | inr ended ↦ subst (λ (x : Talk). Goes (MakesOne what) [] t c x d) (sym ended)
-      (made_goes [] [] t c d (over []) Ended what busy tt (inl refl) tt (λ p same. refl) refl takes)
+      (ended_goes order t c d what busy takes)
 ]
 
 -- ---- a connection that is lost
@@ -209,14 +233,23 @@ gone_left s = elim (cases_Bool (is_again s)) [
   | inr other ↦ rw other refl
 ]
 
-pub lost_goes : (text : List ℕ) (t : Talk) (c d : ClientState) (what : Delivered) → t.asked ≡ true → Concludes text what c d
-    → Goes (MakesOne what) [] t c (record t { status = after_gone t.status; asked = false }) d
-lost_goes text t c d what busy takes =
-    made_goes [] text t c d (after_gone t.status) Gone what busy tt (inl refl) tt (λ p same. ap after_gone same) (gone_left t.status) takes
+left_text : (s : Status) (o : Option ℕ) → s.left ≡ o → IsTextOf (head_left o s.head) [] s
+left_text s None is = inr (is, sym (append-nil s.head))
+left_text s (Some n) is = inl refl
 
-pub ended_goes : (t : Talk) (c d : ClientState) (what : Delivered) → t.asked ≡ true → Concludes [] what c d
-    → Goes (MakesOne what) [] t c (given_up t) d
-ended_goes t c d what busy takes = made_goes [] [] t c d (over []) Ended what busy tt (inl refl) tt (λ p same. refl) refl takes
+-- what is left of the head then
+gone_text : (s : Status) → IsTextOf (after_gone s).head [] s
+gone_text s = elim (cases_Bool (is_again s)) [
+  | inl again ↦ rw again (inl refl)
+  | inr other ↦ rw other (left_text s s.left refl)
+]
+
+pub lost_goes : AnswersAreInOrder → (text : List ℕ) (t : Talk) (c d : ClientState) (what : Delivered) → t.asked ≡ true → IsTextOf text [] t.status
+    → Concludes text what c d
+    → Goes (MakesOne what) [] t c (record t { status = after_gone t.status; asked = false }) d
+lost_goes order text t c d what busy is takes =
+    made_goes order [] text [] t c d (after_gone t.status) Gone what busy tt (inl refl) tt (λ p same. ap after_gone same) (gone_left t.status)
+    gone_adds (λ shut. refl) is takes
 
 pub stopped_goes : (text : List ℕ) (t : Talk) (c d : ClientState) → t.asked ≡ true → Halts text c d → Goes Fails [] t c (given_up t) d
 stopped_goes text t c d busy halts = halted_goes [] text t c d (over []) Ended busy tt (inl refl) tt (λ p same. refl) refl halts
@@ -252,8 +285,8 @@ fed_goes order Body bytes step t c s u d busy opens takes own fed =
 fed_goes order Refused bytes step t c s u d busy opens takes own fed =
     subst (λ (x : Step). Goes (rounds_of x) bytes t c u d) (sym fed.1)
     (subst (λ (x : Talk). Goes (MakesOne fed.0.delivered) bytes t c x d) (sym fed.2)
-    (made_goes bytes s.head t c d s (Came Refused bytes s) fed.0.delivered busy (opens, takes, own) (inl (append-nil bytes)) tt (λ p same. refl)
-    (rw takes.1.1 refl) fed.3))
+    (made_goes order bytes s.head bytes t c d s (Came Refused bytes s) fed.0.delivered busy (opens, takes, own) (inl (append-nil bytes)) tt (λ p same. refl)
+    (rw takes.1.1 refl) (λ p. (refl, refl)) (λ shut. let clash : false ≡ true = sym shut ∙ opens in cc) (inr (takes.0, rw takes.1.1 refl)) fed.3))
 fed_goes order Stray bytes step t c s u d busy opens takes own fed = λ start allowed h is.
     let v = under_true start allowed h t c is busy in
     let clash : 0 ≡ suc (length v.3.0) = ap length (sym takes.0 ∙ v.3.1) in
@@ -282,13 +315,13 @@ pub sent_step : {E : Type 0} (r : Result Step E) (t : Talk) (before : ClientStat
 sent_step (Err e) t before text u c asks goes says = tt
 sent_step (Ok step) t before text u c asks goes says = more_step [] step t before u u c says.0 refl (goes before asks)
 
-pub head_step : {E : Type 0} (r : Result Step E) (t now : Talk) (c : ClientState) (s : Status) (u : Talk) (d : ClientState) → t ≡ now → t.asked ≡ true
+pub head_step : AnswersAreInOrder → {E : Type 0} (r : Result Step E) (t now : Talk) (c : ClientState) (s : Status) (u : Talk) (d : ClientState) → t ≡ now → t.asked ≡ true
     → s ≡ after_gone t.status → IfOk r (λ step. IsConcluded step (record t { status = s }) c u d)
     → IfOk r (λ step. Goes (rounds_of step) [] now c u d)
-head_step (Err e) t now c s u d same busy gone done = tt
-head_step (Ok step) t now c s u d same busy gone done =
+head_step order (Err e) t now c s u d same busy gone done = tt
+head_step order (Ok step) t now c s u d same busy gone done =
     subst (λ (x : Step). Goes (rounds_of x) [] now c u d) (sym done.1)
     (subst (λ (x : Talk). Goes (MakesOne done.0.delivered) [] x c u d) same
     (subst (λ (x : Talk). Goes (MakesOne done.0.delivered) [] t c x d)
     (sym (done.2 ∙ ap (λ (x : Status). record t { status = x; asked = false }) gone))
-    (lost_goes s.head t c d done.0.delivered busy done.3)))
+    (lost_goes order s.head t c d done.0.delivered busy (subst (λ (x : Status). IsTextOf x.head [] t.status) (sym gone) (gone_text t.status)) done.3)))

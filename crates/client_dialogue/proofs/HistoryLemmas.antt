@@ -5,6 +5,7 @@ use Rattle.std.specs.Str.{bytes_eq}
 use Rattle.std.proofs.lemmas.Bool.{cases_Bool}
 use Rattle.std.proofs.lemmas.Slice.Eq.{bytes_eq-Decides}
 use Rattle.http_range.specs.declared.frame.Frame.{Frame}
+use Rattle.client_connection.specs.Answers.{Answer, bytes_of}
 use Rattle.client_connection.specs.declared.parts.Part.{Part}
 use Rattle.client_connection.specs.declared.parts.Part.TheVariants.{Again, Begun, Body, Head, Interim, Refused, Stray}
 use Rattle.client_connection.specs.declared.parts.Turn.{Turn}
@@ -17,7 +18,7 @@ use Rattle.cog_client.specs.AnswerPhase.{nothing_fed}
 use Rattle.cog_client.specs.Client.{ClientState, feed_of}
 use Rattle.cog_client.specs.FedClient.{AnswersBeginAnywhere, Fed}
 use Rattle.cog_client.specs.Keeps.{DeliversKeeping, RequestsKeeping, StopsAsking, StopsDelivery}
-use Rattle.client_dialogue.specs.History.{AreOwn, AreRounds, Exchange, History, IsHistory, IsPlaced, IsRound, IsSomewhere, IsUnder, Round, Talk, begun, connections_of, fed_of, past_of}
+use Rattle.client_dialogue.specs.History.{AreOwn, AreRounds, Exchange, History, IsBegunOn, IsFresh, IsHistory, IsOn, IsOwn, IsPlaced, IsRound, IsSomewhere, IsUnder, Round, Talk, begun, connections_of, fed_of, past_of}
 use Rattle.client_dialogue.specs.History.Round.{LetGo, Made, Rested, Stopped, Unasked}
 use Rattle.client_dialogue.specs.Goes.{AreEarlyFor, AreTaken, BeginsAnew, Continues, Fails, Goes, IsEarlyFor, MakesNone, MakesOne, Stays, came_by}
 use Rattle.client_dialogue.specs.Inside.{Concludes, Feeds, Halts, HasGoneOn, IsConcluded, IsFedBy, IsHaltedBy, given_up}
@@ -65,14 +66,21 @@ pub record Extends (c d : Connection) : Type 0 where
   pub asked : d.asked ≡ c.asked ++ more_asked
   pub more_texts : List (List ℕ)
   pub texts : d.texts ≡ c.texts ++ more_texts
+  pub more_came : List ℕ
+  pub came : d.came ≡ c.came ++ more_came
 
-alike : (c d : Connection) → d.asked ≡ c.asked → d.texts ≡ c.texts → Extends c d
-alike c d a t = record {
+alike : (c d : Connection) → d.asked ≡ c.asked → d.texts ≡ c.texts → (more : List ℕ) → d.came ≡ c.came ++ more → Extends c d
+alike c d a t more came = record {
   more_asked = [];
   asked = a ∙ sym (append-nil c.asked);
   more_texts = [];
   texts = t ∙ sym (append-nil c.texts);
+  more_came = more;
+  came = came;
 }
+
+pub same_came : (c : Connection) → c.came ≡ c.came ++ []
+same_came c = sym (append-nil c.came)
 
 placed_stays : (e : Exchange) (c d : Connection) → Extends c d → IsPlaced e c → IsPlaced e d
 placed_stays e c d x h = record {
@@ -89,12 +97,35 @@ placed_stays e c d x h = record {
   place = h.place;
 }
 
+begun_stays : (e : Exchange) (c d : Connection) → Extends c d → IsBegunOn e c → IsBegunOn e d
+begun_stays e c d x h = record {
+  asked_before = h.asked_before;
+  asked_after = h.asked_after ++ x.more_asked;
+  asked =
+      x.asked ∙ ap (λ (ts : List (List ℕ)). ts ++ x.more_asked) h.asked
+      ∙ append_assoc h.asked_before (e.request ∷ h.asked_after) x.more_asked;
+  answers = h.answers;
+  each = h.each;
+  place = h.place;
+  rest = h.rest ++ x.more_came;
+  came =
+      x.came ∙ ap (λ (bytes : List ℕ). bytes ++ x.more_came) h.came
+      ∙ append_assoc (bytes_of h.answers) (e.text ++ h.rest) x.more_came
+      ∙ ap (λ (bytes : List ℕ). bytes_of h.answers ++ bytes) (append_assoc e.text h.rest x.more_came);
+}
+
+on_stays : (e : Exchange) (c d : Connection) → Extends c d → IsOn e c → IsOn e d
+on_stays e c d x h = (begun_stays e c d x h.0, λ whole. placed_stays e c d x (h.1 whole))
+
 own_stay : (rs : List Round) (c d : Connection) (cs : List Connection) → Extends c d → AreOwn rs (c ∷ cs) → AreOwn rs (d ∷ cs)
 own_stay [] c d cs x h = tt
 own_stay (Made e ∷ rs) c d cs x h = (
-  λ whole. elim (h.0 whole) [
-    | inl here ↦ inl (placed_stays e c d x here)
-    | inr there ↦ inr there
+  elim h.0 [
+    | inl some ↦ inl (elim some [
+      | inl here ↦ inl (on_stays e c d x here)
+      | inr there ↦ inr there
+    ])
+    | inr none ↦ inr none
   ],
   own_stay rs c d cs x h.1,
 )
@@ -105,26 +136,39 @@ own_stay (LetGo request text ∷ rs) c d cs x h = own_stay rs c d cs x h
 
 own_more : (rs : List Round) (c : Connection) (cs : List Connection) → AreOwn rs cs → AreOwn rs (c ∷ cs)
 own_more [] c cs h = tt
-own_more (Made e ∷ rs) c cs h = (λ whole. inr (h.0 whole), own_more rs c cs h.1)
+own_more (Made e ∷ rs) c cs h = (elim h.0 [ inl some ↦ inl (inr some) | inr none ↦ inr none ], own_more rs c cs h.1)
 own_more (Rested ∷ rs) c cs h = own_more rs c cs h
 own_more (Unasked ∷ rs) c cs h = own_more rs c cs h
 own_more (Stopped request text ∷ rs) c cs h = own_more rs c cs h
 own_more (LetGo request text ∷ rs) c cs h = own_more rs c cs h
 
 asks_more : (t : Turn) (text : List ℕ) (c : Connection) → Extends c (asks t text c)
-asks_more Sent text c = alike c c refl refl
-asks_more Sends text c =
-    record { more_asked = text ∷ []; asked = refl; more_texts = []; texts = sym (append-nil c.texts) }
-asks_more Anew text c = alike c c refl refl
+asks_more Sent text c = alike c c refl refl [] (same_came c)
+asks_more Sends text c = record {
+  more_asked = text ∷ [];
+  asked = refl;
+  more_texts = [];
+  texts = sym (append-nil c.texts);
+  more_came = [];
+  came = same_came c;
+}
+asks_more Anew text c = alike c c refl refl [] (same_came c)
 
 pub own_next : (e : Event) (p : Past) (rs : List Round) → AreOwn rs (connections_of p) → AreOwn rs (connections_of (happened e p))
 own_next (Asked text) p rs h = own_stay rs p.now _ p.before (asks_more (turn_of text p.status) text p.now) h
 own_next (SentEarly text) p rs h = own_stay rs p.now _ p.before (asks_more Sends text p.now) h
 own_next Opened p rs h = own_more rs _ (p.now ∷ p.before) h
-own_next (Wrote n) p rs h = own_stay rs p.now _ p.before (alike p.now _ refl refl) h
-own_next (Came part bytes after) p rs h = own_stay rs p.now _ p.before (alike p.now _ refl refl) h
+own_next (Wrote n) p rs h = own_stay rs p.now _ p.before (alike p.now _ refl refl [] (same_came p.now)) h
+own_next (Came part bytes after) p rs h = own_stay rs p.now _ p.before (alike p.now _ refl refl bytes refl) h
 own_next Finished p rs h =
-    own_stay rs p.now _ p.before (record { more_asked = []; asked = sym (append-nil p.now.asked); more_texts = p.front ∷ []; texts = refl }) h
+    own_stay rs p.now _ p.before (record {
+      more_asked = [];
+      asked = sym (append-nil p.now.asked);
+      more_texts = p.front ∷ [];
+      texts = refl;
+      more_came = [];
+      came = same_came p.now;
+    }) h
 own_next Gone p rs h = h
 own_next Ended p rs h = h
 
@@ -244,14 +288,20 @@ moves_goes bytes t c d s e busy can taken early status under = λ start allowed 
 same_under : (l l2 : Option ℕ) (last : ClientState) (request front front2 : List ℕ) (s s2 : Status) (c : ClientState)
     → s.left ≡ l → s2.left ≡ l2 → fed_of l2 front2 ≡ fed_of l front
     → ((early : List (List ℕ)) → s.out ≡ request ∷ early → (more : List (List ℕ)) × (s2.out ≡ request ∷ more))
+    → IsFresh s2
     → IsUnder true last request front s c → IsUnder true last request front2 s2 c
-same_under l l2 last request front front2 s s2 c left left2 fed first u = (
+same_under l l2 last request front front2 s s2 c left left2 fed first fresh u = (
   u.0,
   u.1,
   subst (λ (bytes : List ℕ). Fed u.0 bytes c)
       (ap (λ (x : Option ℕ). fed_of x front) left ∙ sym fed ∙ ap (λ (x : Option ℕ). fed_of x front2) (sym left2)) u.2,
   first u.3.0 u.3.1,
+  fresh,
 )
+
+-- a connection is there
+pub open_fresh : (s : Status) → s.is_open ≡ true → IsFresh s
+open_fresh s opens = λ shut. let clash : false ≡ true = sym shut ∙ opens in cc
 
 pub wrote_goes : (t : Talk) (c : ClientState) (n : ℕ) → t.asked ≡ true → t.status.is_open ≡ true → n ≤ length t.status.waits
     → Goes Stays [] t c (record t { status = after_write n t.status }) c
@@ -263,16 +313,16 @@ pub early_goes : (t : Talk) (c : ClientState) (text : List ℕ) → t.asked ≡ 
     → Goes Stays [] t c (record t { status = sends text t.status }) c
 early_goes t c text busy opens early =
     moves_goes [] t c c (sends text t.status) (SentEarly text) busy opens (inl refl) (early, tt) (λ p same. ap (sends text) same)
-    (λ h is same u. (u.0, u.1, u.2, (u.3.0 ++ text ∷ [], ap (λ (ts : List (List ℕ)). ts ++ text ∷ []) u.3.1)))
+    (λ h is same u. (u.0, u.1, u.2, (u.3.0 ++ text ∷ [], ap (λ (ts : List (List ℕ)). ts ++ text ∷ []) u.3.1), u.4))
 
 pub opened_goes : (t : Talk) (c : ClientState) → t.asked ≡ true → t.status.is_open ≡ false → t.status.left ≡ None
     → Goes Stays [] t c (record t { status = after_open t.status }) c
 opened_goes t c busy shut none =
     moves_goes [] t c c (after_open t.status) Opened busy shut (inl refl) tt (λ p same. ap after_open same)
     (λ h is same u. same_under None None h.last h.request (past_of h).front [] t.status (after_open t.status) c none refl refl
-    (λ early out. ([], ap (λ (ts : List (List ℕ)). take 1 ts) out)) u)
+    (λ early out. ([], ap (λ (ts : List (List ℕ)). take 1 ts) out)) (open_fresh (after_open t.status) refl) u)
 
-both_true : (a b : Bool) → (a && b) ≡ true → (a ≡ true) × (b ≡ true)
+pub both_true : (a b : Bool) → (a && b) ≡ true → (a ≡ true) × (b ≡ true)
 both_true true true e = (refl, refl)
 both_true true false e = (let clash : false ≡ true = e in cc)
 both_true false b e = (let clash : false ≡ true = e in cc)
@@ -293,7 +343,7 @@ again_goes t c busy again =
     moves_goes [] t c c (after_gone t.status) Gone busy tt (inl refl) tt (λ p same. ap after_gone same)
     (λ h is same u. same_under None None h.last h.request (past_of h).front (past_of h).front t.status (after_gone t.status) c
     (again_left t.status again) (rw again refl) refl
-    (λ early out. ([], rw again (ap (λ (ts : List (List ℕ)). take 1 ts) out))) u)
+    (λ early out. ([], rw again (ap (λ (ts : List (List ℕ)). take 1 ts) out))) (rw again (λ shut. (refl, refl))) u)
 
 -- ---- bytes that came
 
@@ -312,15 +362,15 @@ pub quiet_goes : (part : Part) (bytes : List ℕ) (t : Talk) (c : ClientState) (
 quiet_goes Head bytes t c s busy opens takes own which =
     moves_goes bytes t c c s (Came Head bytes s) busy (opens, takes, own) (inl (append-nil bytes)) tt (λ p same. refl)
     (λ h is same u. same_under None None h.last h.request (past_of h).front _ t.status s c takes.0
-    (rw takes.1.1 takes.0) refl (λ early out. (early, rw takes.1.1 out)) u)
+    (rw takes.1.1 takes.0) refl (λ early out. (early, rw takes.1.1 out)) (open_fresh s (rw takes.1.1 opens)) u)
 quiet_goes Interim bytes t c s busy opens takes own which =
     moves_goes bytes t c c s (Came Interim bytes s) busy (opens, takes, own) (inl (append-nil bytes)) tt (λ p same. refl)
     (λ h is same u. same_under None None h.last h.request (past_of h).front _ t.status s c takes.0
-    (rw takes.1.5 takes.0) refl (λ early out. (early, rw takes.1.5 out)) u)
+    (rw takes.1.5 takes.0) refl (λ early out. (early, rw takes.1.5 out)) (open_fresh s (rw takes.1.5 opens)) u)
 quiet_goes Again bytes t c s busy opens takes own which =
     moves_goes bytes t c c s (Came Again bytes s) busy (opens, takes, own) (inl (append-nil bytes)) tt (λ p same. refl)
     (λ h is same u. same_under None None h.last h.request (past_of h).front _ t.status s c takes.0
-    (rw takes.1.2 refl) refl (λ early out. ([], rw takes.1.2 (ap (λ (ts : List (List ℕ)). take 1 ts) out))) u)
+    (rw takes.1.2 refl) refl (λ early out. ([], rw takes.1.2 (ap (λ (ts : List (List ℕ)). take 1 ts) out))) (rw takes.1.2 (λ shut. (refl, refl))) u)
 quiet_goes Stray bytes t c s busy opens takes own which = absurd which
 quiet_goes Begun bytes t c s busy opens takes own which = absurd which
 quiet_goes Body bytes t c s busy opens takes own which = absurd which
@@ -355,6 +405,7 @@ begun_goes order bytes t c d s busy opens takes own feeds =
       subst (λ (o : Option ℕ). Fed u.0 (fed_of o ((past_of h).front ++ bytes)) d) (sym (ap (λ (x : Status). x.left) takes.1.4))
           (subst (λ (xs : List ℕ). Fed u.0 xs d) (sym whole) (feeds u.0 [] none)),
       (u.3.0, rw takes.1.4 u.3.1),
+      open_fresh s (rw takes.1.4 opens),
     ))
 
 -- bytes of the body were fed
@@ -369,6 +420,7 @@ body_goes bytes t c d s busy opens takes own feeds =
       u.1,
       subst (λ (o : Option ℕ). Fed u.0 (fed_of o ((past_of h).front ++ bytes)) d) (sym (ap (λ (x : Status). x.left) takes.3)) (feeds u.0 (past_of h).front some),
       (u.3.0, rw takes.3 u.3.1),
+      open_fresh s (rw takes.3 opens),
     ))
 
 -- ---- the end of an exchange
@@ -391,18 +443,97 @@ ends_goes rounds bytes t c d s e busy can taken early status left round = λ sta
           (omega (arith, few, r.2)),
     )
 
+-- ---- what came of an answer stands at the place of its request
+
+-- an event adds these bytes to what came on the connection, and no request
+abbrev pub Adds : Event → List ℕ → Type 0
+Adds e fresh = (p : Past) → ((happened e p).now.asked ≡ p.now.asked) × ((happened e p).now.came ≡ p.now.came ++ fresh)
+
+pub ended_adds : Adds Ended []
+ended_adds = λ p. (refl, same_came p.now)
+
+pub gone_adds : Adds Gone []
+gone_adds = λ p. (refl, same_came p.now)
+
+-- the text is nothing, or the head with these bytes
+abbrev pub IsTextOf : List ℕ → List ℕ → Status → Type 0
+IsTextOf text fresh s = (text ≡ []) ⊎ ((s.left ≡ None) × (text ≡ s.head ++ fresh))
+
+fed_front : (o : Option ℕ) (front : List ℕ) → (rest : List ℕ) × (front ≡ fed_of o front ++ rest)
+fed_front None front = (front, refl)
+fed_front (Some n) front = ([], sym (append-nil front))
+
+covers : (o : Option ℕ) (front head text fresh : List ℕ) → (o ≡ None → front ≡ head) → (text ≡ []) ⊎ ((o ≡ None) × (text ≡ head ++ fresh))
+    → (rest : List ℕ) × (front ++ fresh ≡ (fed_of o front ++ text) ++ rest)
+covers o front head text fresh is_head is = elim is [
+  | inl none ↦
+      let f = fed_front o front in (
+        f.0 ++ fresh,
+        ap (λ (xs : List ℕ). xs ++ fresh) f.1 ∙ append_assoc (fed_of o front) f.0 fresh
+            ∙ ap (λ (xs : List ℕ). xs ++ (f.0 ++ fresh))
+            (sym (append-nil (fed_of o front)) ∙ ap (λ (xs : List ℕ). fed_of o front ++ xs) (sym none)),
+      )
+  | inr whole ↦ (
+    [],
+    ap (λ (xs : List ℕ). xs ++ fresh) (is_head whole.0) ∙ sym whole.1
+        ∙ ap (λ (x : Option ℕ). fed_of x front ++ text) (sym whole.0) ∙ sym (append-nil (fed_of o front ++ text)),
+  )
+]
+
+pub begun_on : (p : Past) (d : Connection) (e : Exchange) (early : List (List ℕ)) (fresh : List ℕ) → IsLive p → p.status.out ≡ e.request ∷ early
+    → d.asked ≡ p.now.asked → d.came ≡ p.now.came ++ fresh → (rest : List ℕ) × (p.front ++ fresh ≡ e.text ++ rest) → IsBegunOn e d
+begun_on p d e early fresh l out asked came covered = record {
+  asked_before = take (length p.now.texts) p.now.asked;
+  asked_after = early;
+  asked =
+      asked ∙ sym (take-append-drop (length p.now.texts) p.now.asked)
+      ∙ ap (λ (ts : List (List ℕ)). take (length p.now.texts) p.now.asked ++ ts) (sym l.out ∙ out);
+  answers = l.order.answers;
+  each = l.order.each;
+  place = omega (arith, l.order.few, length-take (length p.now.texts) p.now.asked, ap length l.order.texts);
+  rest = covered.0;
+  came =
+      came ∙ ap (λ (xs : List ℕ). xs ++ fresh) l.order.came ∙ append_assoc (bytes_of l.order.answers) (p.front ++ []) fresh
+      ∙ ap (λ (xs : List ℕ). bytes_of l.order.answers ++ xs) (ap (λ (xs : List ℕ). xs ++ fresh) (append-nil p.front) ∙ covered.1);
+}
+
 -- an exchange whose answer isn't whole, or isn't used
-pub made_goes : (bytes : List ℕ) (text : List ℕ) (t : Talk) (c d : ClientState) (s : Status) (e : Event) (what : Delivered) → t.asked ≡ true → CanHappen e t.status
-    → AreTaken bytes (e ∷ []) s → AreEarlyFor d (e ∷ []) → ((p : Past) → p.status ≡ t.status → (happened e p).status ≡ s) → s.left ≡ None → Concludes text what c d
+cut_own : AnswersAreInOrder → (h : History) (t : Talk) (c : ClientState) (e : Event) (text fresh : List ℕ) (what : Delivered)
+    → CanRun h.events none_yet → (past_of h).status ≡ t.status → IsUnder true h.last h.request (past_of h).front t.status c
+    → Adds e fresh → (t.status.is_open ≡ false → fresh ≡ []) → IsTextOf text fresh t.status
+    → IsOwn (record { request = h.request; text = fed_of t.status.left (past_of h).front ++ text; whole = false; what = what })
+    (connections_of (happened e (past_of h)))
+cut_own order h t c e text fresh what can same u adds none is = elim (cases_Bool t.status.is_open) [
+  | inl opens ↦
+      let p = past_of h in
+      let made : Exchange = record { request = h.request; text = fed_of t.status.left p.front ++ text; whole = false; what = what } in
+      inl (inl (
+        begun_on p (happened e p).now made u.3.0 fresh (live_of order h t.status can same opens) (ap (λ (x : Status). x.out) same ∙ u.3.1)
+            (adds p).0 (adds p).1
+            (covers t.status.left p.front t.status.head text fresh (front_is_head order h t.status can same opens) is),
+        (λ whole. let clash : false ≡ true = whole in cc),
+      ))
+  | inr shut ↦
+      let clear = u.4 shut in
+      let nothing : text ≡ [] = elim is [
+        | inl empty ↦ empty
+        | inr head ↦ head.1 ∙ ap (λ (xs : List ℕ). xs ++ fresh) clear.1 ∙ none shut
+      ] in
+      inr (refl, ap (λ (x : Option ℕ). fed_of x (past_of h).front ++ text) clear.0 ∙ nothing)
+]
+
+pub made_goes : AnswersAreInOrder → (bytes text fresh : List ℕ) (t : Talk) (c d : ClientState) (s : Status) (e : Event) (what : Delivered) → t.asked ≡ true → CanHappen e t.status
+    → AreTaken bytes (e ∷ []) s → AreEarlyFor d (e ∷ []) → ((p : Past) → p.status ≡ t.status → (happened e p).status ≡ s) → s.left ≡ None
+    → Adds e fresh → (t.status.is_open ≡ false → fresh ≡ []) → IsTextOf text fresh t.status → Concludes text what c d
     → Goes (MakesOne what) bytes t c (record t { status = s; asked = false }) d
-made_goes bytes text t c d s e what busy can taken early status left takes =
+made_goes order bytes text fresh t c d s e what busy can taken early status left adds none is takes =
     ends_goes (MakesOne what) bytes t c d s e busy can taken early status left (λ h hcan same u.
     let made : Exchange = record { request = h.request; text = fed_of t.status.left (past_of h).front ++ text; whole = false; what = what } in (
       Made made,
       (u.0, u.1, takes u.0 (fed_of t.status.left (past_of h).front) u.2),
       refl,
       (made, refl, refl),
-      (λ own. ((λ whole. let clash : false ≡ true = whole in cc), own)),
+      (λ own. (cut_own order h t c e text fresh what hcan same u adds none is, own)),
     ))
 
 -- memory was wanting for it

@@ -1,5 +1,6 @@
 -- What happened on a client's connections, and to the client: which request got which answer.
 use Rattle.std.specs.Prelude.{◌≡◌, ⊤, ◌⊎◌, ◌+◌, ℕ, Bool, true, false, if◌then◌else◌, List, [], ◌∷◌, ◌++◌, length, Option, Some, None}
+use Rattle.client_connection.specs.Answers.{Answer, AreAnswers, bytes_of, finals}
 use Rattle.client_connection.specs.Status.{Status}
 use Rattle.client_connection.specs.Run.{CanRun, Connection, Event, Past, none_yet, run}
 use Rattle.cog_client.specs.declared.delivered.Delivered.{Delivered}
@@ -48,7 +49,19 @@ begun (LetGo request text ∷ rs) = begun rs + 1
 
 -- ---- whose answer it is
 
--- On the connection the request and the text stand at one place: the text is the answer to that request.
+-- On the connection the request stands at one place, and what came after the answers to the requests before it begins with the text: the
+-- text is a front of the answer to that request, or the whole answer.
+pub record IsBegunOn (e : Exchange) (c : Connection) : Type 0 where
+  pub asked_before : List (List ℕ)
+  pub asked_after : List (List ℕ)
+  pub asked : c.asked ≡ asked_before ++ e.request ∷ asked_after
+  pub answers : List Answer
+  pub each : AreAnswers answers
+  pub place : length asked_before ≡ length (finals answers)
+  pub rest : List ℕ
+  pub came : c.came ≡ bytes_of answers ++ (e.text ++ rest)
+
+-- On the connection the request and the text stand at one place: the text is the whole answer to that request.
 pub record IsPlaced (e : Exchange) (c : Connection) : Type 0 where
   pub asked_before : List (List ℕ)
   pub asked_after : List (List ℕ)
@@ -58,14 +71,21 @@ pub record IsPlaced (e : Exchange) (c : Connection) : Type 0 where
   pub texts : c.texts ≡ texts_before ++ e.text ∷ texts_after
   pub place : length asked_before ≡ length texts_before
 
+abbrev pub IsOn : Exchange → Connection → Type 0
+IsOn e c = IsBegunOn e c × (e.whole ≡ true → IsPlaced e c)
+
 abbrev pub IsSomewhere : Exchange → List Connection → Type 0
 IsSomewhere e [] = ⊥
-IsSomewhere e (c ∷ cs) = IsPlaced e c ⊎ IsSomewhere e cs
+IsSomewhere e (c ∷ cs) = IsOn e c ⊎ IsSomewhere e cs
 
--- each answer that was taken whole is that to its own request, on one of these connections
+-- what came is of the answer to its own request, on one of these connections; or nothing came of it
+abbrev pub IsOwn : Exchange → List Connection → Type 0
+IsOwn e cs = IsSomewhere e cs ⊎ ((e.whole ≡ false) × (e.text ≡ []))
+
+-- so it is of each exchange
 abbrev pub AreOwn : List Round → List Connection → Type 0
 AreOwn [] cs = ⊤
-AreOwn (Made e ∷ rs) cs = (e.whole ≡ true → IsSomewhere e cs) × AreOwn rs cs
+AreOwn (Made e ∷ rs) cs = IsOwn e cs × AreOwn rs cs
 AreOwn (Rested ∷ rs) cs = AreOwn rs cs
 AreOwn (Unasked ∷ rs) cs = AreOwn rs cs
 AreOwn (Stopped request text ∷ rs) cs = AreOwn rs cs
@@ -97,13 +117,17 @@ abbrev pub fed_of : Option ℕ → List ℕ → List ℕ
 fed_of None front = []
 fed_of (Some left) front = front
 
+-- Without a connection nothing of the next answer is there.
+abbrev pub IsFresh : Status → Type 0
+IsFresh s = s.is_open ≡ false → (s.left ≡ None) × (s.head ≡ [])
+
 -- Between exchanges the client is as the last one left it. In one it was asked for the request, whose answer comes next, and was fed
 -- what came of that answer.
 abbrev pub IsUnder : Bool → ClientState → List ℕ → List ℕ → Status → ClientState → Type 0
 IsUnder false last request front s c = (c ≡ last) × (s.left ≡ None)
 IsUnder true last request front s c =
     (asking : ClientState) × RequestsKeeping last (Some request) asking × Fed asking (fed_of s.left front) c
-    × ((early : List (List ℕ)) × (s.out ≡ request ∷ early))
+    × ((early : List (List ℕ)) × (s.out ≡ request ∷ early)) × IsFresh s
 
 -- So a dialogue and a client came about, from a client as it was when the query began, of which at most so many exchanges were allowed.
 pub record IsHistory (start : ClientState) (allowed : ℕ) (h : History) (t : Talk) (c : ClientState) : Type 0 where

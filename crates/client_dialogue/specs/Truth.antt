@@ -7,8 +7,8 @@ use Rattle.cog_client.specs.Client.{ClientAgrees, ClientState, name_of}
 use Rattle.client_dialogue.specs.History.{AreOwn, History, IsHistory, Round, Talk, connections_of, past_of}
 use Rattle.client_dialogue.specs.History.Round.{LetGo, Made, Rested, Stopped, Unasked}
 
--- On each connection the answers are those to its own requests, in their order; and what the client took whole as the answer to a request
--- is the answer at that request's place.
+-- On each connection the answers are those to its own requests, in their order. What the client took as the answer to a request begins
+-- where the answer at that request's place does; and where it was taken as whole, it is that answer.
 abbrev pub AnswersAreOwn : Type 0
 AnswersAreOwn = (start : ClientState) (allowed : ℕ) (h : History) (t : Talk) (c : ClientState) → IsHistory start allowed h t c
     → IsOrderly (past_of h) × AreOwn h.rounds (connections_of (past_of h))

@@ -4,9 +4,9 @@ ghost use Rattle.client_dialogue.specs.Truth.{AnswersAreOwn, HistoriesAreTrue};
 use client_connection::law_answers_are_in_order;
 use cog_client::{law_answers_begin_anywhere, law_fronts_keep_agreement};
 
-/// Whatever comes and is lost: each answer that a client took whole stands on a connection at the place of its own request. A client
-/// that agreed with a book, of which no two files have one ETag, still agrees with it. This holds where what came is read as pieces of
-/// its files.
+/// Whatever comes and is lost: what a client took of an answer, whole or cut, came on a connection at the place of its own request. A
+/// client that agreed with a book, of which no two files have one ETag, still agrees with it. This holds where what came is read as pieces
+/// of its files.
 pub fn law_histories_are_true()
     ensures own { AnswersAreOwn }
     ensures truth { HistoriesAreTrue }

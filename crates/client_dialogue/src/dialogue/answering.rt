@@ -234,6 +234,7 @@ impl Dialogue {
         ensures err { OnErr result (Goes Fails [] self.old client.old self.new client.new) }
         ensures over { self.new.status.is_open ≡ false }
     {
+        law_answers_are_in_order();
         let begun = self.connection.left().is_some();
         if self.connection.gone() {
             return Ok(Step::More);
@@ -252,6 +253,7 @@ impl Dialogue {
         ensures says { IfOk result (λ step. Says step self.new client.new) }
         ensures err { OnErr result (Goes Fails [] self.old client.old self.new client.new) }
     {
+        law_answers_are_in_order();
         self.connection.end();
         let exchanged = self.conclude(client)?;
         Ok(Step::Exchanged(exchanged))

@@ -1,6 +1,9 @@
+use Rattle.std.proofs.lemmas.Bool.{eqb-true, false_from_ne_true, false≢true}
 use Rattle.std.proofs.Common.{◌∙◌, ℕ, List, Ok, Some, ap, arith, length, length-take, sym, subst, take}
 use Rattle.http_range.specs.Frame.{ReadsFrame}
+use Rattle.client_connection.specs.Answers.{is_timeout}
 use Rattle.client_connection.specs.Status.{Status}
+use Rattle.client_connection.proofs.connection.ClientConnection.take_frame.Goals.{else-self-via-then-self+else-frame-eq-REQUEST_TIMEOUT, else-self-via-else-self}
 use Rattle.client_connection.proofs.connection.ClientConnection.take_frame.Goals as goal
 
 pub take_interim-requires-clause-reads : goal.take_interim-requires-clause-reads
@@ -32,5 +35,11 @@ returns c =
         ap (λ (t : Status). record t { head = c.truncate.new.self.items; left = Some left; closes = frame.closes; interims = 0 }) c.self.view_is
             ∙ ap (λ (h : List ℕ). record s { head = h; left = Some left; closes = frame.closes; interims = 0 }) c.truncate.ensures.items
             ∙ ap (λ (n : ℕ). record s { head = head; left = Some n; closes = frame.closes; interims = 0 }) c.unwrap_or.ensures,
+        λ kept. elim c.else-self.branch [
+          | else-self-via-then-self+else-frame-eq-REQUEST_TIMEOUT w ↦
+              false_from_ne_true (is_timeout frame) (λ late. w.if-frame-eq-REQUEST_TIMEOUT.false (eqb-true frame.status 408 late))
+          | else-self-via-else-self w ↦
+              absurd (false≢true (sym w.if-self.false ∙ ap (λ (t : Status). t.kept) c.self.view_is ∙ kept))
+        ],
       ),
     )

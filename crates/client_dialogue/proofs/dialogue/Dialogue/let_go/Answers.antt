@@ -21,4 +21,4 @@ returns-clause-goes c =
     let same = c.in_ok-exchanged.ensures.ok.0 ∙ ap (λ (s : Status). record t { status = s; asked = false }) c.end.ensures in
     subst (λ (x : Talk). Goes (MakesOne what) [] x c.args.client.now c.conclude.new.self c.conclude.new.client) c.self.view_is
     (subst (λ (x : Talk). Goes (MakesOne what) [] t c.args.client.now x c.conclude.new.client) (sym same)
-    (ended_goes t c.args.client.now c.conclude.new.client what (ap (λ (x : Talk). x.asked) c.self.view_is ∙ c.requires) c.in_ok-exchanged.ensures.ok.1))
+    (ended_goes c.law_answers_are_in_order.ensures.order t c.args.client.now c.conclude.new.client what (ap (λ (x : Talk). x.asked) c.self.view_is ∙ c.requires) c.in_ok-exchanged.ensures.ok.1))

@@ -1,4 +1,4 @@
-use Rattle.std.proofs.Common.{[], true, false, ap, sym, subst, ◌∙◌}
+use Rattle.std.proofs.Common.{[], true, false, ap, inl, refl, sym, subst, ◌∙◌}
 use Rattle.client_connection.specs.Status.{Status, after_gone}
 use Rattle.client_dialogue.specs.History.{Talk}
 use Rattle.client_dialogue.specs.Goes.{Fails, Goes, MakesNone, MakesOne}
@@ -19,7 +19,7 @@ returns-then-gone-clause-goes c =
 pub returns-then-not-begun-clause-goes : goal.returns-then-not-begun-clause-goes
 returns-then-not-begun-clause-goes c =
     let t : Talk = record { status = c.self.inside.connection; asked = c.self.inside.asked; exchanges = c.self.inside.exchanges } in
-    head_step c.conclude_head.result t c.args.self.now c.args.client.now c.gone.new.self c.conclude_head.new.self c.conclude_head.new.client c.self.view_is
+    head_step c.law_answers_are_in_order.ensures.order c.conclude_head.result t c.args.self.now c.args.client.now c.gone.new.self c.conclude_head.new.self c.conclude_head.new.client c.self.view_is
     (ap (λ (x : Talk). x.asked) c.self.view_is ∙ c.requires) c.gone.ensures.after c.conclude_head.ensures.ok
 
 pub returns-then-not-begun-clause-err : goal.returns-then-not-begun-clause-err
@@ -46,4 +46,4 @@ returns-clause-goes c =
     let same = c.in_ok-exchanged.ensures.ok.0 ∙ ap (λ (s : Status). record t { status = s; asked = false }) c.gone.ensures.after in
     subst (λ (x : Talk). Goes (MakesOne what) [] x c.args.client.now c.conclude.new.self c.conclude.new.client) c.self.view_is
     (subst (λ (x : Talk). Goes (MakesOne what) [] t c.args.client.now x c.conclude.new.client) (sym same)
-    (lost_goes [] t c.args.client.now c.conclude.new.client what (ap (λ (x : Talk). x.asked) c.self.view_is ∙ c.requires) c.in_ok-exchanged.ensures.ok.1))
+    (lost_goes c.law_answers_are_in_order.ensures.order [] t c.args.client.now c.conclude.new.client what (ap (λ (x : Talk). x.asked) c.self.view_is ∙ c.requires) (inl refl) c.in_ok-exchanged.ensures.ok.1))
