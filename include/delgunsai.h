@@ -21,7 +21,7 @@
  *             delgunsai_client_connected(&client); break;
  *         case DELGUNSAI_WRITE:                 at most sizeof text bytes of it
  *             length = delgunsai_client_waiting(&client, text, sizeof text);
- *             delgunsai_client_wrote(&client, write(socket, text, length)); break;
+ *             delgunsai_client_wrote(&client, write(socket, text, length < sizeof text ? length : sizeof text)); break;
  *         case DELGUNSAI_LOOK:                  poll() without a wait, and where something is there go on as for DELGUNSAI_READ
  *             delgunsai_client_silent(&client); break;
  *         case DELGUNSAI_READ:                  into the front of `bytes`
@@ -53,7 +53,7 @@
  *     threads.
  *   - A negative result is one of COG_.. or DELGUNSAI_..; the others are said with each call.
  *   - A room is memory for a text: the result is the length of the text. Where that is more than the room's length, nothing was
- *     written, and the call can be made again with a room of that length.
+ *     written, and the call can be made again with a room of that length. Only delgunsai_client_waiting writes as much as fits.
  *
  * What is reported is proved as the contracts of crates/delgunsai_c say, for callers that keep these rules. */
 #ifndef DELGUNSAI_H
@@ -167,13 +167,14 @@ int32_t cog_client_forget(struct cog_client *client);
 
 /* cog_client_keep_open: writes all requests but the check without `Connection: close` from here on, so that a connection may be kept from
  * one to the next. The caller has to know then where an answer ends (RFC 9112, section 6.3), and feeds no byte after it. It ends the
- * connection after an answer that isn't used: where cog_client_end says COG_IGNORED. What is left of such an answer could be read as the
- * next one, and pixels can look like an answer. It ends it, too, where bytes come that no request asked for. Gives 0 or COG_NO_CLIENT. */
+ * connection after an answer that isn't used: where cog_client_end says COG_IGNORED, or COG_TOOK with the number 0. What is left of such
+ * an answer could be read as the next one, and pixels can look like an answer. It ends it, too, where bytes come that no request asked
+ * for. Gives 0 or COG_NO_CLIENT. */
 int32_t cog_client_keep_open(struct cog_client *client);
 
-/* cog_client_look_ahead: looks ahead by `blocks` blocks from here on. A request asks for the blocks that are missing of the range that is
- * needed next, and for those that follow. Each of these is missing and needed later. They are up to 65 in all, as far as the cache has room
- * for them. What is asked for already stays. Without this call it looks no block ahead. Gives 0 or COG_NO_CLIENT. */
+/* cog_client_look_ahead: looks ahead by `blocks` blocks from here on. A request asks for the first run of blocks that are missing of the
+ * range that is needed next, and for those that follow. Each of these is missing and needed later. They are up to 65 in all, as far as the
+ * cache has room for them. Without this call it looks no block ahead. Gives 0 or COG_NO_CLIENT. */
 int32_t cog_client_look_ahead(struct cog_client *client, uint32_t blocks);
 
 /* cog_client_open_window: asks for the samples of w columns from x and h rows from y, in pixels of the level of this number, instead
@@ -189,18 +190,19 @@ int32_t cog_client_open_info(struct cog_client *client);
 
 /* cog_client_request: goes on as far as the known bytes reach, and lays the text of the next request into the room: a GET with a Range.
  * Gives the text's length; 0, where nothing is asked: a report stands, or there is no query; COG_MEMORY or COG_NO_CLIENT. Asked again
- * before an answer it gives the same text, with the fields that were added since. An unfinished answer is dropped, as by
- * cog_client_open_.. and cog_client_forget too: what is left of it isn't fed. After COG_MEMORY nothing is asked, and the room is as it was;
- * what is known of the file stays, and the call may be made again. */
+ * before an answer it gives the same text, but for what cog_client_keep_open, cog_client_look_ahead and added fields changed since. An
+ * unfinished answer is dropped, as by cog_client_open_.. and cog_client_forget too: what is left of it isn't fed. After COG_MEMORY nothing
+ * is asked, and the room is as it was; what is known of the file stays, and the call may be made again. */
 int64_t cog_client_request(struct cog_client *client, uint8_t *room, size_t length);
 
 /* cog_client_later: lays a request's text into the room, of those that may be sent before the answer to the one comes which
- * cog_client_request gave last: the one at place `index`, 0 for the next. It may be sent ahead of its time, on the same connection too; its
- * answer is taken once cog_client_request gives the same text. Another one may come in its place, as where the file is replaced or an
+ * cog_client_request gave last: the one at place `index`, 0 for the next. It may be sent ahead of its time, on the same connection too;
+ * its answer is taken once cog_client_request gives the same text. Another one may come in its place, as where the file is replaced or an
  * answer is cut. Gives the text's length; 0, where there is none at this place; COG_MEMORY or COG_NO_CLIENT. It is always 0 before
- * cog_client_request, cog_client_keep_open and cog_client_look_ahead. After them it is 0 only where each block in reach is there, or a
- * request before this place asks for it. In reach are the byte ranges that are known to be needed, up to the first that lies before an
- * earlier one in the file, or for which the cache has no room. It changes nothing of the client. */
+ * cog_client_request, cog_client_keep_open and cog_client_look_ahead. After them, where it looks ahead by at least one block, it is 0 only
+ * where each later block in reach is there, or a request before this place asks for it. In reach are the byte ranges that are known to be
+ * needed, up to the first that lies before an earlier one, ends after the file, or has no room in the cache. It changes nothing of the
+ * client. */
 int64_t cog_client_later(struct cog_client *client, uint32_t index, uint8_t *room, size_t length);
 
 /* cog_client_begin: begins an answer to the request. An unfinished one is dropped. Gives 0 or COG_NO_CLIENT. */
@@ -331,9 +333,10 @@ struct delgunsai_step {
     uint32_t alone;          /* after an exchange, 1 where no other request was sent with its request */
 };
 
-/* delgunsai_client_go_on: takes bytes that came, and says what to do next. `length` is 0 where nothing came since the last call. Bytes that
- * nothing asked for end the connection, and are taken. Gives 0, COG_MEMORY or COG_NO_CLIENT. After COG_MEMORY the exchange is over, and
- * so is its connection; what was taken of its answer stays. */
+/* delgunsai_client_go_on: takes bytes that came, and says what to do next. `length` is 0 where nothing came since the last call. Bytes
+ * that nothing asked for end the connection, and are taken. Gives 0, COG_MEMORY or COG_NO_CLIENT. After COG_MEMORY an exchange that was
+ * under way is over, with its connection; what was taken of its answer stays. Where memory is wanting for a request alone, a kept
+ * connection stays. */
 int32_t delgunsai_client_go_on(struct cog_client *client, const uint8_t *bytes, size_t length, struct delgunsai_step *step);
 
 /* delgunsai_client_waiting: lays the first of the bytes that are to be written into the room, as many as it has room for. Gives how many
@@ -358,7 +361,8 @@ int32_t delgunsai_client_gone(struct cog_client *client, uint32_t how, struct de
 int32_t delgunsai_client_exchanges(struct cog_client *client, uint32_t exchanges);
 
 /* delgunsai_client_ask_same: begins the check whether the file still is the one that was read last. The next steps are of the check, up to
- * DELGUNSAI_CHECKED. It has a connection of its own. Gives 1; 0, where nothing was read yet; COG_MEMORY or COG_NO_CLIENT. */
+ * DELGUNSAI_CHECKED. It has a connection of its own: whatever it gives, what is under way is dropped, and its connection ends. Gives 1; 0,
+ * where nothing is known of the file; COG_MEMORY or COG_NO_CLIENT. */
 int32_t delgunsai_client_ask_same(struct cog_client *client);
 
 #ifdef __cplusplus

@@ -1,5 +1,7 @@
 -- What holds of all histories.
-use Rattle.std.proofs.Common.{◌≡◌, ◌⊎◌, ℕ, List, [], ◌∷◌, refl, ap, sym, ◌∙◌, subst, inl, inr}
+use Rattle.std.proofs.Common.{◌≡◌, ◌⊎◌, ◌+◌, ℕ, Bool, List, [], ◌∷◌, refl, ap, sym, ◌∙◌, subst, arith, inl, inr}
+use Rattle.std.specs.Prelude.{if◌then◌else◌}
+use Rattle.client_connection.specs.Status.{Status}
 use Rattle.http_range.specs.Announced.{Announced}
 use Rattle.http_range.specs.Book.{Book, HasDistinctTags}
 use Rattle.http_range.specs.Honest.{IsPieceOfBook, IsReadAs}
@@ -7,9 +9,19 @@ use Rattle.cog_client.specs.declared.case.Case.{Case}
 use Rattle.cog_client.specs.declared.case.Case.TheVariants.{Accepted, Adopted, Ignored, Restarted}
 use Rattle.cog_client.specs.Client.{ClientAgrees, ClientState, name_of}
 use Rattle.cog_client.specs.FedClient.{Begins, Fed, FrontsKeepAgreement, case_for}
-use Rattle.client_dialogue.specs.History.{AreRounds, Round}
+use Rattle.client_dialogue.specs.History.{AreRounds, IsUnder, Round}
 use Rattle.client_dialogue.specs.History.Round.{LetGo, Made, Rested, Stopped, Unasked}
-use Rattle.client_dialogue.specs.Truth.{AreHonest, HistoriesAreTrue}
+use Rattle.client_dialogue.specs.Truth.{AreHonest, HistoriesAreTrue, HistoriesBegin}
+
+pub histories_begin : HistoriesBegin
+histories_begin = λ c t status idle. record {
+  can = tt;
+  status = sym status;
+  rounds = refl;
+  under = subst (λ (b : Bool). IsUnder b c [] [] t.status c) (sym idle) (refl, ap (λ (s : Status). s.left) status);
+  own = tt;
+  few = subst (λ (b : Bool). 0 + (t.exchanges + (if b then 1 else 0)) ≡ t.exchanges) (sym idle) (omega arith);
+}
 
 -- ---- the name stays
 

@@ -1,11 +1,17 @@
 -- What is true of all histories.
-use Rattle.std.specs.Prelude.{◌≡◌, ⊤, ℕ, List, [], ◌∷◌, IfSome}
+use Rattle.std.specs.Prelude.{◌≡◌, ⊤, ℕ, false, List, [], ◌∷◌, IfSome}
 use Rattle.http_range.specs.Book.{Book, HasDistinctTags}
 use Rattle.http_range.specs.Honest.{IsPieceOfBook, IsReadAs}
 use Rattle.client_connection.specs.Run.{IsOrderly}
+use Rattle.client_connection.specs.Status.{over}
 use Rattle.cog_client.specs.Client.{ClientAgrees, ClientState, name_of}
 use Rattle.client_dialogue.specs.History.{AreOwn, History, IsHistory, Round, Talk, connections_of, past_of}
 use Rattle.client_dialogue.specs.History.Round.{LetGo, Made, Rested, Stopped, Unasked}
+
+-- A dialogue without a connection, in which nothing is under way, has the history in which nothing happened.
+abbrev pub HistoriesBegin : Type 0
+HistoriesBegin = (c : ClientState) (t : Talk) → t.status ≡ over [] → t.asked ≡ false
+    → IsHistory c t.exchanges (record { events = []; rounds = []; last = c; request = [] }) t c
 
 -- On each connection the answers are those to its own requests, in their order. What the client took as the answer to a request begins
 -- where the answer at that request's place does; and where it was taken as whole, it is that answer.

@@ -8,3 +8,4 @@ pub mod Calls
 pub mod Answers
 pub mod Told
 pub mod Moving
+pub mod Begins

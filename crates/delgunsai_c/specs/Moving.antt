@@ -43,11 +43,11 @@ WritesBy None count h k =
     × (k.dialogue ≡ record h.dialogue { status = after_write count h.dialogue.status })
 WritesBy (Some s) count h k = k ≡ record h { check = Some (after_write count s) }
 
--- an exchange is under way on a connection that is there
+-- A check is under way, or an exchange on a connection that is there.
 abbrev pub IsConnected : Held → Type 0
-IsConnected h = (h.check ≡ None) × (h.dialogue.asked ≡ true) × (h.dialogue.status.is_open ≡ true)
+IsConnected h = h.check ≡ None → (h.dialogue.asked ≡ true) × (h.dialogue.status.is_open ≡ true)
 
--- It is noted; or more was written than waited, or nothing was to be.
+-- It is noted; or it doesn't fit: more was written than waited, or nothing is under way that could be written.
 abbrev pub Writes : ℕ → ℤ → Held → Held → Type 0
 Writes count told h k = ((told ≡ pos 0) × WritesBy h.check count h k)
     ⊎ (IsOutOfOrder told h k × (count ≤ length (waits_of h) → IsConnected h → ⊥))

@@ -1,7 +1,9 @@
 //! Calls that make, clear and free a client.
-ghost use Rattle.std.specs.Prelude.{◌≡◌, [], None, IfErr, IfOk, IfSome};
+ghost use Rattle.std.specs.Prelude.{◌≡◌, [], None, IfErr, IfOk, IfSome, IsSomeAnd, pos};
+ghost use Rattle.delgunsai_c.specs.Begins.{BeginsQuery, IsUnused};
 ghost use Rattle.delgunsai_c.specs.Calls.{AddsOr, Calls, Done, IsRefusal, IsUrlFailure, News, NewsOfUrl};
-ghost use Rattle.delgunsai_c.specs.Handle.{client_of};
+ghost use Rattle.delgunsai_c.specs.Driving.{Drives};
+ghost use Rattle.delgunsai_c.specs.Handle.{client_of, held_of};
 ghost use Rattle.cog_client.specs.Calls.{Forgets, Starts, StartsByUrl};
 
 use crate::failure::{Failure, failure_of, failure_of_field, failure_of_url};
@@ -19,7 +21,8 @@ const EARLY: u32 = 8;
 
 /// Puts a client in the heap, or returns `None` where no memory is left.
 fn in_heap(alloc: Global, client: Client) -> Option<Box<Held>>
-    ensures { IfSome result (λ b. b.value.client ≡ client) }
+    ensures client { IfSome result (λ b. b.value.client ≡ client) }
+    ensures unused { IfSome result (λ b. IsUnused b.value) }
 {
     let dialogue = Dialogue::new(alloc, EARLY);
     let held = Held {
@@ -34,6 +37,7 @@ fn in_heap(alloc: Global, client: Client) -> Option<Box<Held>>
 /// Makes a client in the heap. Fails with the first of `Host`, `Name` and `Blocks` that applies, or with `Memory`.
 fn boxed(alloc: Global, host: &[u8], name: &[u8], blocks: u32) -> Result<Box<Held>, Failure>
     ensures made { IfOk result (λ b. Starts host.now name.now blocks b.value.client) }
+    ensures unused { IfOk result (λ b. IsUnused b.value) }
     ensures refused { IfErr result (IsRefusal host.now name.now blocks) }
 {
     match Client::new(alloc, host, name, blocks) {
@@ -55,7 +59,8 @@ pub extern "C" fn cog_client_new(
     blocks: u32,
     client: &mut Handle,
 ) -> i32
-    ensures { News host.now name.now blocks (client_of client.old) (client_of client.new) result }
+    ensures news { News host.now name.now blocks (client_of client.old) (client_of client.new) result }
+    ensures unused { result ≡ pos 0 → IsSomeAnd (held_of client.new) IsUnused }
 {
     match boxed(alloc, host, name, blocks) {
         Ok(made) => {
@@ -75,6 +80,7 @@ fn boxed_by_url(
     blocks: u32,
 ) -> Result<Box<Held>, Failure>
     ensures made { IfOk result (λ b. StartsByUrl authority.now target.now [] blocks b.value.client) }
+    ensures unused { IfOk result (λ b. IsUnused b.value) }
     ensures refused { IfErr result (IsUrlFailure authority.now target.now blocks) }
 {
     match Client::by_url(alloc, authority, target, RequestFields::new(alloc), blocks) {
@@ -96,7 +102,8 @@ pub extern "C" fn delgunsai_client_by_url(
     blocks: u32,
     client: &mut Handle,
 ) -> i32
-    ensures { NewsOfUrl authority.now target.now blocks (client_of client.old) (client_of client.new) result }
+    ensures news { NewsOfUrl authority.now target.now blocks (client_of client.old) (client_of client.new) result }
+    ensures unused { result ≡ pos 0 → IsSomeAnd (held_of client.new) IsUnused }
 {
     match boxed_by_url(alloc, authority, target, blocks) {
         Ok(made) => {
@@ -130,16 +137,25 @@ pub extern "C" fn delgunsai_client_add_field(
     code
 }
 
+/// Drops the report, all that is known of the file, and what is under way.
+fn forget_held(held: &mut Held)
+    ensures forgets { Forgets held.old.client held.new.client }
+    ensures begins { BeginsQuery held.old held.new }
+{
+    held.client.forget();
+    held.begin_query();
+}
+
 /// Drops the report and all that is known of the file. Host, name, query, and how the client asks, stay. Returns 0 or `COG_NO_CLIENT`.
 #[unsafe(no_mangle)]
 pub extern "C" fn cog_client_forget(alloc: Global, client: &mut Handle) -> i32
-    ensures { Calls (λ s t. Done (Forgets s t) result) (client_of client.old) (client_of client.new) result }
+    ensures forgets { Calls (λ s t. Done (Forgets s t) result) (client_of client.old) (client_of client.new) result }
+    ensures begins { Drives BeginsQuery (held_of client.old) (held_of client.new) result }
 {
     let Some(mut held) = client.take(alloc) else {
         return Failure::NoClient.code();
     };
-    held.client.forget();
-    held.begin_query();
+    forget_held(&mut held);
     client.put(held);
     0
 }
