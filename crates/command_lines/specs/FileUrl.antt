@@ -1,5 +1,5 @@
 -- What a URL of `http` names (`http://HOST[:PORT]/PATH[?QUERY]`), and why a word names nothing.
-use Rattle.std.specs.Prelude.{◌≡◌, ◌≢◌, ◌⊎◌, ◌==◌, false, if◌then◌else◌, nat_lt, List, [], ◌++◌, drop, length, map, take, ℕ, IsTrue, Option, Some, None, Ok, Err, codes, decimal, eqb, option_and_then, option_map, string_bytes, unwrap_or, ⊤}
+use Rattle.std.specs.Prelude.{◌≡◌, ◌≢◌, ◌⊎◌, ◌==◌, false, if◌then◌else◌, nat_lt, List, [], ◌++◌, drop, length, map, take, ℕ, IsTrue, IsSomeAnd, Option, Some, None, Ok, Err, codes, decimal, eqb, option_and_then, option_map, string_bytes, unwrap_or, ⊤}
 use Rattle.std.specs.Char.{to_ascii_lowercase}
 use Rattle.std.specs.List.{after_first, position_or_len, starts_with}
 use Rattle.url.specs.declared.error.ParseError.TheVariants.{Overflow}
@@ -57,7 +57,7 @@ IsFrontError url error = ⊥
 -- this is wrong with the path and the query as they were typed
 abbrev pub IsTypedError : (word target : List ℕ) → FileUrlError → Type 0
 IsTypedError word target NoPath = target_typed word ≡ None
-IsTypedError word target Target = target_typed word ≢ Some target
+IsTypedError word target Target = IsSomeAnd (target_typed word) (λ typed. typed ≢ target)
 IsTypedError word target error = ⊥
 
 -- This is wrong with the word: it is no URL (or one of 4 GB), or its front is wrong, or path and query aren't as they were typed; or memory is wanting.
@@ -67,7 +67,7 @@ IsFileUrlError word (NotAUrl error) = (parse_url None word ≡ Err error) ⊎ (e
 IsFileUrlError word NoPath = (url : Parts) × (parse_url None word ≡ Ok url) × (url.scheme ≡ codes "http") × (has_credentials url ≡ false)
     × (target_typed word ≡ None)
 IsFileUrlError word Target = (url : Parts) × (parse_url None word ≡ Ok url) × (url.scheme ≡ codes "http") × (has_credentials url ≡ false)
-    × (target_typed word ≢ Some (target_text url))
+    × IsSomeAnd (target_typed word) (λ typed. typed ≢ target_text url)
 IsFileUrlError word error = (url : Parts) × (parse_url None word ≡ Ok url) × IsFrontError url error
 
 -- The word names this: the URL Standard's parser takes it, it is of `http` without a user's name or a password, and it was typed as it is

@@ -1,7 +1,7 @@
 -- Field lines, one added after another.
-use Rattle.std.proofs.Common.{◌≡◌, ◌∙◌, ◌+◌, ◌<◌, ◌++◌, ◌∷◌, ℕ, List, [], Bor, append_assoc, append-nil, ap, get_or, length, refl, sym, take}
+use Rattle.std.proofs.Common.{◌∙◌, ◌+◌, ◌<◌, ◌++◌, ◌∷◌, ℕ, List, [], Bor, append_assoc, append-nil, ap, get_or, length, refl, sym, take}
 use Rattle.http_fields.specs.Text.{FieldLine}
-use Rattle.cog_client.specs.Client.{ClientState, fields_of, how_of}
+use Rattle.cog_client.specs.Client.{ClientState, how_of}
 use Rattle.cog_client.specs.Keeps.{AddsField}
 use Rattle.programs.specs.Headers.{AddsLines, IsFieldLine}
 use Rattle.programs.proofs.NamedLemmas.{zip_next}

@@ -2,3 +2,4 @@ mod BoundsLemmas
 mod FileLemmas
 mod HeaderLemmas
 mod NamedLemmas
+mod PrintedLemmas

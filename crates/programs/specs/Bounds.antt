@@ -46,9 +46,9 @@ NamesCoordinate word (NotACoordinate told) = string_bytes told ≡ word
 NamesCoordinate word Memory = ⊤
 NamesCoordinate word fault = ⊥
 
--- it is one of a rectangle, or memory is wanting
+-- the fault names a word that is no finite number, or it is that of no rectangle, or memory is wanting
 abbrev pub IsOfRectangle : Exit → Type 0
-IsOfRectangle (NotACoordinate told) = ⊤
+IsOfRectangle (NotACoordinate told) = coordinate (string_bytes told) ≡ None
 IsOfRectangle NoRectangle = ⊤
 IsOfRectangle Memory = ⊤
 IsOfRectangle fault = ⊥

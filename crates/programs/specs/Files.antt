@@ -1,15 +1,17 @@
 -- The files that the words of `cogserve` name.
-use Rattle.std.specs.Prelude.{◌≡◌, ◌⊎◌, ◌<◌, ◌≤◌, ◌==◌, ℕ, List, [], ◌∷◌, length, string_bytes, ⊤}
+use Rattle.std.specs.Prelude.{◌≡◌, ◌⊎◌, ◌<◌, ◌≤◌, ◌==◌, ℕ, List, [], ◌∷◌, length, Option, string_bytes, ⊤}
 use Rattle.std.specs.Borrow.{Bor}
 use Rattle.std.specs.List.{AllZip, after_first, before_first, position_or_len}
+use Rattle.disk_files.specs.Watching.{verify_of}
 use Rattle.disk_files.specs.declared.watched.Watched.{Watched}
 use Rattle.programs.specs.declared.exit.Exit.{Exit}
 use Rattle.programs.specs.declared.exit.Exit.TheVariants.{NotAFile, Memory}
 
--- the word has a `=` (61), and the file has the name before its first one and the path behind it
-abbrev pub IsFile : List ℕ → Watched → Type 0
-IsFile word file = (position_or_len (λ b. b == 61) word < length word)
-    × (file.name.now ≡ before_first (λ b. b == 61) word) × (file.path.now ≡ after_first (λ b. b == 61) word)
+-- The word has a `=` (61), and the file has the name before its first one and the path after it. Its bytes are compared again after this
+-- many milliseconds, or never.
+abbrev pub IsFile : (verify : Option ℕ) → List ℕ → Watched → Type 0
+IsFile verify word file = (position_or_len (λ b. b == 61) word < length word)
+    × (file.name.now ≡ before_first (λ b. b == 61) word) × (file.path.now ≡ after_first (λ b. b == 61) word) × (verify_of file ≡ verify)
 
 -- the word has no `=`
 abbrev pub IsNoFile : List ℕ → Type 0
@@ -27,8 +29,8 @@ NamesOneOf [] fault = fault ≡ Memory
 NamesOneOf (word ∷ words) fault = (IsNoFile word.now × NamesFile word.now fault) ⊎ NamesOneOf words fault
 
 -- these are the files of the words, one for each, in their order
-abbrev pub AreFiles : List (Bor (List ℕ)) → List Watched → Type 0
-AreFiles words files = AllZip (λ (word : Bor (List ℕ)) file. IsFile word.now file) words files
+abbrev pub AreFiles : (verify : Option ℕ) → List (Bor (List ℕ)) → List Watched → Type 0
+AreFiles verify words files = AllZip (λ (word : Bor (List ℕ)) file. IsFile verify word.now file) words files
 
 -- a word names no file, or memory is wanting
 abbrev pub IsOfFiles : Exit → Type 0

@@ -1,9 +1,12 @@
 pub mod Bounds
+pub mod Commands
 pub mod Files
 pub mod Headers
+pub mod Lines
 pub mod NamedFiles
 pub mod Number
 pub mod Origins
 pub mod Printed
 pub mod Status
 pub mod Words
+pub mod WorldFiles

@@ -1,18 +1,20 @@
 -- Files with their own names, as they are watched, and the fault of two that have one.
-use Rattle.std.specs.Prelude.{◌≡◌, ◌⊎◌, ℕ, List, string_bytes, ⊤}
+use Rattle.std.specs.Prelude.{◌≡◌, ◌⊎◌, ℕ, List, Option, string_bytes, ⊤}
 use Rattle.std.specs.List.{AllZip}
+use Rattle.disk_files.specs.Watching.{verify_of}
 use Rattle.disk_files.specs.declared.watched.Watched.{Watched}
 use Rattle.command_lines.specs.NamedFiles.{AreOfOneName}
 use Rattle.command_lines.specs.declared.given_files.NamedFile.{NamedFile}
 use Rattle.programs.specs.declared.exit.Exit.{Exit}
 use Rattle.programs.specs.declared.exit.Exit.TheVariants.{Memory, OneName}
 
--- the file under the same name and path
-abbrev pub IsWatched : NamedFile → Watched → Type 0
-IsWatched file watched = (watched.name.now ≡ string_bytes file.name) × (watched.path.now ≡ file.path.now)
+-- the file under the same name and path, whose bytes are compared again after this many milliseconds, or never
+abbrev pub IsWatched : (verify : Option ℕ) → NamedFile → Watched → Type 0
+IsWatched verify file watched =
+    (watched.name.now ≡ string_bytes file.name) × (watched.path.now ≡ file.path.now) × (verify_of watched ≡ verify)
 
-abbrev pub AreWatched : List NamedFile → List Watched → Type 0
-AreWatched files watched = AllZip IsWatched files watched
+abbrev pub AreWatched : (verify : Option ℕ) → List NamedFile → List Watched → Type 0
+AreWatched verify files watched = AllZip (IsWatched verify) files watched
 
 -- the fault names these two files, by the name of the second, or memory is wanting
 abbrev pub NamesBoth : (first second : NamedFile) → Exit → Type 0

@@ -6,8 +6,12 @@ use Rattle.world.specs.declared.event.Entry.{Entry}
 use Rattle.world.specs.Run.{IsBeginning, Runs}
 use Rattle.world.specs.World.{AreAlike, AtEach, IsTrueEntry, start}
 use Rattle.world.specs.Progress.{AllReport, IsNeededEntry}
+use Rattle.scripts.specs.Line.{IsScriptFault}
 use Rattle.scripts.specs.Script.{AreEvents, Finds, lines}
 use Rattle.scripts.specs.LogText.{text_of_log}
+use Rattle.programs.specs.declared.exit.Exit.{Exit}
+use Rattle.programs.specs.declared.exit.Exit.TheVariants.{Script}
+use Rattle.programs.specs.Status.{IsOfWriting}
 
 -- It is the text of a log: of a run of the events that the lines of the script are, whose files were found so. Each report in it is true of
 -- one file, those of one tag and one query say the same, each request is for what its query needs, and a report comes by its cost. Where
@@ -24,3 +28,8 @@ pub record IsPrinted {A E : Type 0} (finds : Finds) (script : List ℕ) (ran : R
   pub progress : OnOk ran (AllReport events entries)
   pub memory : OnErr ran (IsBeginning events entries clients)
   pub text : printed ≡ text_of_log entries
+
+-- No log is printed, since the script isn't read for this fault of it, nothing can be written, or memory is wanting.
+abbrev pub IsUnprinted : Finds → (script : List ℕ) → Exit → Type 0
+IsUnprinted finds script (Script fault) = IsScriptFault finds script fault
+IsUnprinted finds script fault = IsOfWriting fault

@@ -1,5 +1,5 @@
 -- The exit statuses of faults.
-use Rattle.std.specs.Prelude.{◌≡◌, ◌≢◌, ◌⊎◌, ℕ, Bool, true, false}
+use Rattle.std.specs.Prelude.{◌≡◌, ◌≢◌, ◌⊎◌, ℕ, Bool, true, false, ⊤}
 use Rattle.clap.specs.Words.{kind_of}
 use Rattle.clap.specs.declared.error.kind.ErrorKind.{ErrorKind}
 use Rattle.clap.specs.declared.error.kind.ErrorKind.TheVariants as kind
@@ -68,7 +68,14 @@ abbrev pub EndsBy : Bool → Exit → ℕ → Type 0
 EndsBy true fault n = HasStatus fault n
 EndsBy false fault n = (HasStatus fault n × (n ≢ 0)) ⊎ (HasStatus fault 0 × (n ≡ 1))
 
--- the fault that tells why there is no text of a file
+-- it says that nothing can be written, that nobody reads it any more, or that memory is wanting
+abbrev pub IsOfWriting : Exit → Type 0
+IsOfWriting CantWrite = ⊤
+IsOfWriting ReaderGone = ⊤
+IsOfWriting Memory = ⊤
+IsOfWriting fault = ⊥
+
+-- the fault that says why there is no text of a file
 abbrev pub exit_of_reading : ReadError → Exit
 exit_of_reading (reading.OfFile fault) = OfFile fault
 exit_of_reading reading.NoReport = NoReport

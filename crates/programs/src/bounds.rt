@@ -1,6 +1,7 @@
 //! Rectangles of command lines.
-ghost use Rattle.std.specs.Prelude.{◌≡◌, None, Some, IfErr, IfOk, OnErr};
-ghost use Rattle.programs.specs.Bounds.{IsBounds, IsNoBounds, IsOfRectangle, NamesCoordinate, coordinate, is_rectangle};
+ghost use Rattle.std.specs.Prelude.{◌≡◌, None, Some, Err, IfErr, IfOk, OnErr};
+ghost use Rattle.programs.specs.declared.exit.Exit.TheVariants.{NoRectangle};
+ghost use Rattle.programs.specs.Bounds.{IsBounds, IsNoBounds, IsNoRectangle, IsOfRectangle, NamesCoordinate, coordinate, is_rectangle};
 
 use crate::exit::Exit;
 use command_lines::BoundsWords;
@@ -32,6 +33,7 @@ fn is_rectangle(bounds: &Bounds) -> bool
 pub fn bounds<R: AllocGlobal>(rt: &R, words: &BoundsWords<'_>) -> Result<Bounds, Exit>
     ensures ok { IfOk result (IsBounds words.now) }
     ensures err { OnErr result (IsNoBounds words.now) }
+    ensures turned { result ≡ Err NoRectangle → IsNoRectangle words.now }
     ensures kinds { IfErr result IsOfRectangle }
 {
     let bounds = Bounds {

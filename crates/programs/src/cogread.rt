@@ -1,7 +1,9 @@
 //! `cogread`: reads a window, the info or a description of a file over sockets.
-ghost use Rattle.std.specs.Prelude.{◌≡◌, ◌<◌, IfErr, IfOk, OnErr, Some, length};
+ghost use Rattle.std.specs.Prelude.{◌≡◌, ◌<◌, List, ℕ, IfErr, IfOk, IsErrAnd, IsOk, OnErr, OnOk, Some, length, map};
+ghost use Rattle.std.specs.Borrow.{Bor};
 ghost use Rattle.std.specs.Option.{option_copied};
 ghost use Rattle.command_lines.specs.FileUrl.{Names};
+ghost use Rattle.programs.specs.Lines.{IsExplained, IsLineOfPath, IsLineOfUrl, verbosity, words_of_url};
 ghost use Rattle.programs.specs.Number.{IsOfNumber};
 ghost use Rattle.programs.specs.Words.{AsksNothing, HasNoNumber, IsAsked, IsNoPick, IsNoUrl, IsNoWindow, IsOfWords, IsPick, IsWindow, ahead_number, asked_window, blocks_number, requests_number};
 
@@ -137,7 +139,9 @@ fn numbers_of<R: AllocGlobal>(rt: &R, line: &ReadLine<'_>) -> Result<Numbers, Ex
 }
 
 /// Returns what a line wants printed of exchanges.
-fn verbosity_of(line: &ReadLine<'_>) -> Verbosity {
+fn verbosity_of(line: &ReadLine<'_>) -> Verbosity
+    ensures { result ≡ verbosity line.now.verbose line.now.progress }
+{
     match (line.verbose, line.progress) {
         (true, _) => Verbosity::Each,
         (false, true) => Verbosity::Progress,
@@ -317,7 +321,10 @@ fn asked_url<'a>(
     alloc: Global,
     url: &'a FileUrl,
     is_alone: bool,
-) -> Result<AskedUrl<'a>, AllocError> {
+) -> Result<AskedUrl<'a>, AllocError>
+    ensures url { IfOk result (λ asked. asked.url ≡ url.entry) }
+    ensures words { IfOk result (λ asked. map (λ (word : Bor (List ℕ)). word.now) asked.words.items ≡ words_of_url is_alone url.entry.now) }
+{
     let mut words = Vec::new(alloc);
     if is_alone {
         words.push("describe")?;
@@ -328,7 +335,9 @@ fn asked_url<'a>(
 }
 
 /// Returns a line as it is where a URL names the file. The connection is kept, unless the line says otherwise, and the client looks ahead.
-fn line_of_url<'a>(line: ReadLine<'a>) -> ReadLine<'a> {
+fn line_of_url<'a>(line: ReadLine<'a>) -> ReadLine<'a>
+    ensures { IsLineOfUrl AHEAD_OF_A_URL.now line.entry result }
+{
     ReadLine {
         keep: !line.close,
         ahead: line.ahead.or(Some(AHEAD_OF_A_URL)),
@@ -337,7 +346,9 @@ fn line_of_url<'a>(line: ReadLine<'a>) -> ReadLine<'a> {
 }
 
 /// Returns a line as it is where a path names the file. The client looks ahead, and makes as many requests as it needs.
-fn line_of_path<'a>(line: ReadLine<'a>) -> ReadLine<'a> {
+fn line_of_path<'a>(line: ReadLine<'a>) -> ReadLine<'a>
+    ensures { IsLineOfPath AHEAD_OF_A_URL.now REQUESTS_OF_A_FILE.now line.entry result }
+{
     ReadLine {
         ahead: line.ahead.or(Some(AHEAD_OF_A_URL)),
         requests: line.requests.or(Some(REQUESTS_OF_A_FILE)),
@@ -391,7 +402,10 @@ where
 }
 
 /// Has the fault of a file explained, as where a URL or a path of the disk names it: by a value that the client's bytes of the file have.
-fn explained<R: AllocGlobal>(rt: &R, ended: Result<(), Exit>, client: &Client) -> Result<(), Exit> {
+fn explained<R: AllocGlobal>(rt: &R, ended: Result<(), Exit>, client: &Client) -> Result<(), Exit>
+    ensures ok { OnOk ended (IsOk result) }
+    ensures err { IfErr ended (λ fault. IsErrAnd result (IsExplained fault)) }
+{
     match ended {
         Err(Exit::OfFile(fault)) => {
             let levels = client.levels().unwrap_or(&[]);

@@ -189,7 +189,7 @@ fn file_of<'a, R: AllocGlobal>(
     word: &'a str,
     verify: Option<u64>,
 ) -> Result<Watched<'a>, Exit>
-    ensures ok { IfOk result (IsFile word.entry.now) }
+    ensures ok { IfOk result (IsFile verify word.entry.now) }
     ensures err { OnErr result (IsNoFile word.entry.now) }
     ensures told { IfErr result (NamesFile word.entry.now) }
     ensures kinds { IfErr result IsOfFiles }
@@ -206,7 +206,7 @@ fn files_of<'a, R: AllocGlobal>(
     words: &[&'a str],
     verify: Option<u64>,
 ) -> Result<Vec<Watched<'a>>, Exit>
-    ensures ok { IfOk result (λ files. AreFiles words.now files.items) }
+    ensures ok { IfOk result (λ files. AreFiles verify words.now files.items) }
     ensures told { IfErr result (NamesOneOf words.now) }
     ensures kinds { IfErr result IsOfFiles }
 {

@@ -1,10 +1,10 @@
 //! `cogworld [--pieces N] SCRIPT`: runs a script and prints its log.
-ghost use Rattle.std.specs.Prelude.{[], ℕ, List, IfOk, OnErr, OnOk};
+ghost use Rattle.std.specs.Prelude.{[], ℕ, List, IfErr, IfOk, OnErr, OnOk};
 ghost use Rattle.std.specs.Io.KnownBytes.{Appends};
 ghost use Rattle.world.specs.Run.{IsBeginning, Runs};
 ghost use Rattle.world.specs.World.{AreAlike, AtEach, IsTrueEntry, start};
 ghost use Rattle.world.specs.Progress.{AllReport, IsNeededEntry};
-ghost use Rattle.programs.specs.Printed.{IsPrinted};
+ghost use Rattle.programs.specs.Printed.{IsPrinted, IsUnprinted};
 
 use crate::disk::Disk;
 use crate::exit::Exit;
@@ -43,8 +43,8 @@ fn log_of(alloc: Global, events: &[Event], piece: Option<u32>) -> (Log, Result<(
 }
 
 /// Runs a script and writes its log to `out`. Answers are handed over whole, or in pieces of `piece` bytes. The value is an error where no
-/// memory was left for the run, which ends the log. Fails where the script isn't read, where `out` fails, or where no memory is left for
-/// the text. After that nothing is said of what was written.
+/// memory was left for the run, which ends the log. Fails with `Script` where the script isn't read, and with `CantWrite` or `ReaderGone`
+/// where `out` fails. Fails with `Memory` where no memory is left for the text. After that nothing is said of what was written.
 pub fn write_log<S: Source, W: Write>(
     alloc: Global,
     text: &[u8],
@@ -52,14 +52,17 @@ pub fn write_log<S: Source, W: Write>(
     piece: Option<u32>,
     out: &mut W,
 ) -> Result<Result<(), Memory>, Exit>
-    ensures { IfOk result (λ ran. (printed : List ℕ) × IsPrinted (S.finds source.old) text.now ran printed
+    ensures ok { IfOk result (λ ran. (printed : List ℕ) × IsPrinted (S.finds source.old) text.now ran printed
         × Appends (W.contents out.old) (W.contents out.new) printed) }
+    ensures err { IfErr result (IsUnprinted (S.finds source.old) text.now) }
 {
     let events = script(alloc, text, source)?;
     let (log, ran) = log_of(alloc, &events, piece);
     let text = log_text(alloc, &log)?;
-    out.write_all(&text)?;
-    Ok(ran)
+    match out.write_all(&text) {
+        Ok(()) => Ok(ran),
+        Err(error) => Err(Exit::of_writing(error)),
+    }
 }
 
 /// Runs a script and prints its log. Where no memory is left, it fails after printing the log up to there.

@@ -1,6 +1,7 @@
 //! The command and its words. It runs the program with its own name, as where a link called it. Else it runs the program that its first
 //! word names.
-ghost use Rattle.std.specs.Prelude.{◌≡◌, MatchResult};
+ghost use Rattle.std.specs.Prelude.{◌≡◌, IfNone, IfSome, MatchResult};
+ghost use Rattle.programs.specs.Commands.{NamesNone, name_of};
 ghost use Rattle.programs.specs.Status.{EndsWith};
 
 use crate::exit::Exit;
@@ -19,7 +20,10 @@ enum Program {
 }
 
 impl Program {
-    fn from_name(name: &str) -> Option<Program> {
+    fn from_name(name: &str) -> Option<Program>
+        ensures some { IfSome result (λ program. name.now ≡ name_of program) }
+        ensures none { IfNone result (NamesNone name.now) }
+    {
         match name {
             "cogread" => Some(Program::Cogread),
             "cogserve" => Some(Program::Cogserve),
@@ -28,7 +32,9 @@ impl Program {
         }
     }
 
-    fn name(self) -> &'static str {
+    fn name(self) -> &'static str
+        ensures { result.now ≡ name_of self }
+    {
         match self {
             Program::Cogread => "cogread",
             Program::Cogserve => "cogserve",

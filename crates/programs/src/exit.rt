@@ -115,8 +115,10 @@ impl fmt::Display for NotRead {
 }
 
 impl Exit {
-    ghost use Rattle.std.specs.Prelude.{is_ok};
-    ghost use Rattle.programs.specs.Status.{EndsBy, EndsWith, HasStatus};
+    ghost use Rattle.std.specs.Prelude.{◌≡◌, ◌≢◌, is_ok};
+    ghost use Rattle.std.specs.IoError.{error_kind};
+    ghost use Rattle.std.specs.declared.io.ErrorKind.TheVariants.{BrokenPipe, OutOfMemory};
+    ghost use Rattle.programs.specs.Status.{EndsBy, EndsWith, HasStatus, IsOfWriting};
 
     /// Returns the exit status. It is 0 for help and the version, 1 for files, sockets, publications and memory, and 2 for the command
     /// line, and for a line of a script that is no event. It is 3 for a fault of the file that is read, and 4 where there is no report.
@@ -186,6 +188,20 @@ impl Exit {
         match self.status() {
             0 if printed.is_err() => 1,
             status => status,
+        }
+    }
+
+    /// Returns the fault for an error of writing to the standard output.
+    pub(crate) fn of_writing(error: io::Error) -> Exit
+        ensures memory { error_kind error ≡ OutOfMemory → result ≡ Exit.Memory }
+        ensures gone { error_kind error ≡ BrokenPipe → result ≡ Exit.ReaderGone }
+        ensures other { error_kind error ≢ OutOfMemory → error_kind error ≢ BrokenPipe → result ≡ Exit.CantWrite }
+        ensures kinds { IsOfWriting result }
+    {
+        match error.kind() {
+            io::ErrorKind::OutOfMemory => Exit::Memory,
+            io::ErrorKind::BrokenPipe => Exit::ReaderGone,
+            _ => Exit::CantWrite,
         }
     }
 
@@ -347,11 +363,7 @@ impl From<io::Error> for Exit {
         × (error_kind error ≢ OutOfMemory → error_kind error ≢ BrokenPipe → fault ≡ CantWrite) };
 
     fn from(error: io::Error) -> Exit {
-        match error.kind() {
-            io::ErrorKind::OutOfMemory => Exit::Memory,
-            io::ErrorKind::BrokenPipe => Exit::ReaderGone,
-            _ => Exit::CantWrite,
-        }
+        Exit::of_writing(error)
     }
 }
 

@@ -1,8 +1,8 @@
 //! Numbers of command lines.
-ghost use Rattle.std.specs.Prelude.{◌≡◌, ◌≤◌, ◌⊎◌, None, Some, IfErr, IfOk, IfSome, OnErr};
+ghost use Rattle.std.specs.Prelude.{◌≡◌, ◌≤◌, ◌⊎◌, None, Some, Err, Ok, IfErr, IfOk, IfSome, OnErr};
 ghost use Rattle.std.specs.Option.{option_copied};
 ghost use Rattle.command_lines.specs.Number.{number_from};
-ghost use Rattle.programs.specs.Number.{IsOfNumber, Names, number_or};
+ghost use Rattle.programs.specs.Number.{HasRange, IsOfNumber, Names, number_or, ranged};
 
 use crate::exit::Exit;
 use command_lines::number_from;
@@ -23,8 +23,11 @@ impl fmt::Display for NumberRange {
     }
 }
 
-/// Has a word that is no number reported with its range, as where a URL, a path or files alone stand in a line.
-pub fn with_range<T>(made: Result<T, Exit>) -> Result<T, Exit> {
+/// Has a word that is no number reported with its range, as where a URL, a path or files alone stand in a line. Another outcome stays.
+pub fn with_range<T>(made: Result<T, Exit>) -> Result<T, Exit>
+    ensures ok { IfOk made (λ value. result ≡ Ok value) }
+    ensures err { IfErr made (λ fault. result ≡ Err (ranged fault)) }
+{
     match made {
         Err(Exit::NotANumber(word, range)) => Err(Exit::OutOfRange(word, range)),
         made => made,
@@ -43,6 +46,7 @@ pub fn number<R: AllocGlobal>(
     ensures ok { IfOk result (λ n. number_from least greatest word.now ≡ Some n) }
     ensures err { OnErr result (number_from least greatest word.now ≡ None) }
     ensures told { IfErr result (Names word.now) }
+    ensures range { IfErr result (HasRange name.now least greatest) }
     ensures kinds { IfErr result IsOfNumber }
     ensures low { IfOk result (λ n. least ≤ n) }
 {
@@ -72,6 +76,7 @@ pub fn number_or<R: AllocGlobal>(
     ensures ok { IfOk result (λ n. number_or least greatest default (option_copied word.entry) ≡ Some n) }
     ensures err { OnErr result (number_or least greatest default (option_copied word.entry) ≡ None) }
     ensures told { IfErr result (λ fault. IfSome (option_copied word.entry) (λ told. Names told fault)) }
+    ensures range { IfErr result (HasRange name.now least greatest) }
     ensures kinds { IfErr result IsOfNumber }
     ensures low { IfOk result (λ n. least ≤ n ⊎ (n ≡ default)) }
 {

@@ -1,10 +1,11 @@
 //! `cogserve` with files alone: what its words leave out has a default, and a file has its own name.
-ghost use Rattle.std.specs.Prelude.{◌≡◌, ◌++◌, ◌∷◌, [], IfErr, IfOk, IfSome, Ok, OnOk};
+ghost use Rattle.std.specs.Prelude.{◌≡◌, ◌++◌, ◌∷◌, [], IfErr, IfOk, IfSome, IsSomeAnd, None, Ok, OnErr, OnOk};
 ghost use Rattle.std.specs.Option.{option_copied};
 ghost use Rattle.command_lines.specs.NamedFiles.{HaveOwnNames};
 ghost use Rattle.programs.specs.NamedFiles.{AreWatched, IsWatched, NamesBoth, NamesTwo};
-ghost use Rattle.programs.specs.Number.{IsOfNumber};
-ghost use Rattle.programs.specs.Words.{IsGiven};
+ghost use Rattle.programs.specs.Number.{IsOfNumber, Names};
+ghost use Rattle.programs.specs.Words.{IsGiven, number_32};
+ghost use Rattle.programs.specs.declared.exit.Exit.TheVariants.{NoClock};
 
 use crate::cogserve::{ended, limits_of, millis_of, verify_of};
 use crate::exit::{Exit, NotRead};
@@ -90,7 +91,9 @@ fn with_reason<R: Clock + Eprint + AllocGlobal, T: Drop>(
     log: &AccessLog<'_, R>,
     place: &str,
     outcome: Result<T, ServeFilesError<'_>>,
-) -> Result<T, Exit> {
+) -> Result<T, Exit>
+    ensures { IfOk outcome.entry (λ value. result ≡ Ok value) }
+{
     let (read, listened) = match &outcome {
         Ok(_) => (None, None),
         Err(error) => (read_reason(error), listen_reason(error)),
@@ -151,6 +154,8 @@ fn print_urls<R: Print + Eprint>(
 /// Returns the epoch that a word gives, or `None` without a word. Fails with `NotANumber`, or with `Memory`.
 fn given_epoch<R: AllocGlobal>(rt: &R, word: Option<&str>) -> Result<Option<u32>, Exit>
     ensures ok { IfOk result (IsGiven (option_copied word.entry)) }
+    ensures err { OnErr result (IsSomeAnd (option_copied word.entry) (λ told. number_32 told ≡ None)) }
+    ensures told { IfErr result (λ fault. IfSome (option_copied word.entry) (λ told. Names told fault)) }
     ensures kinds { IfErr result IsOfNumber }
 {
     match word {
@@ -161,7 +166,8 @@ fn given_epoch<R: AllocGlobal>(rt: &R, word: Option<&str>) -> Result<Option<u32>
 
 /// Returns the epoch that is given, or else the seconds since 1970. Fails with `NoClock` where the clock fails.
 fn epoch_of<R: Clock>(rt: &R, given: Option<u32>) -> Result<u32, Exit>
-    ensures { IfSome given (λ epoch. result ≡ Ok epoch) }
+    ensures given { IfSome given (λ epoch. result ≡ Ok epoch) }
+    ensures err { IfErr result (λ fault. fault ≡ NoClock) }
 {
     match given {
         Some(epoch) => Ok(epoch),
@@ -200,7 +206,7 @@ fn one_name(
 
 /// Makes the watched file of a named one. `verify` is in milliseconds.
 fn watched_of<'a>(file: &'a NamedFile<'a>, verify: Option<u64>) -> Watched<'a>
-    ensures { IsWatched file.entry.now result }
+    ensures { IsWatched verify file.entry.now result }
 {
     Watched::verified(file.name.as_str(), file.path, verify)
 }
@@ -211,7 +217,7 @@ fn watched_files<'a>(
     files: &'a [NamedFile<'a>],
     verify: Option<u64>,
 ) -> Result<Vec<Watched<'a>>, AllocError>
-    ensures { IfOk result (λ watched. AreWatched files.entry.now watched.items) }
+    ensures { IfOk result (λ watched. AreWatched verify files.entry.now watched.items) }
 {
     let mut watched = Vec::new(alloc);
     for file in files {

@@ -5,6 +5,7 @@ use Rattle.tiff_dir.specs.declared.field_values.TheConstants.{BLACK_IS_ZERO, CHU
 use Rattle.tiff_dir.specs.declared.fault.FileFault.{FileFault}
 use Rattle.tiff_dir.specs.declared.fault.FileFault.TheVariants.{Unsupported}
 use Rattle.tiff_dir.specs.File.{directories, value}
+use Rattle.tiff_dir.specs.Level.{is_level}
 
 -- the values that the sentence on the field names as read: all of a field that it says nothing of
 abbrev pub is_read : ℕ → ℕ → Bool
@@ -16,9 +17,9 @@ is_read tag v =
     else if tag == PLANAR_CONFIGURATION then v == CHUNKY
     else if tag == SAMPLE_FORMAT then v == UNSIGNED_INTEGER else true
 
--- one of the file's directories has this as the first value of the field
+-- one of the file's levels has this as the first value of the field
 abbrev pub HasValue : List ℕ → ℕ → ℕ → Type 0
-HasValue f tag v = (i k : ℕ) × (slice_get (directories f) i ≡ Some k) × (value f k tag 0 ≡ Some v)
+HasValue f tag v = (i k : ℕ) × (slice_get (directories f) i ≡ Some k) × (is_level f k ≡ true) × (value f k tag 0 ≡ Some v)
 
 -- the fault is of a value that isn't read, and this is one that the file has
 abbrev pub IsFoundIn : List ℕ → FileFault → ℕ → Type 0

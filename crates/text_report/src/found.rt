@@ -1,5 +1,6 @@
 //! The value of a field for which a file isn't read.
-ghost use Rattle.std.specs.Prelude.{◌≡◌, false, IfSome, List, ℕ};
+ghost use Rattle.std.specs.Prelude.{◌≡◌, false, true, IfSome, List, ℕ};
+ghost use Rattle.tiff_dir.specs.Level.{is_level};
 ghost use Rattle.text_report.specs.Found.{HasValue, is_read};
 
 use known_fields::{KnownBytes, known_directories, known_value};
@@ -27,15 +28,24 @@ fn is_read(tag: u16, value: u64) -> bool
     }
 }
 
-/// Returns a value of the field `tag` that isn't read: the first one among the values 0 of the file's directories. Returns `None` where no
-/// such value is known.
+/// Returns whether directory `directory` is known to be a level.
+#[tactic(auto, unfolding(tiff_dir::specs::Level::is_level))]
+fn is_known_level<B: KnownBytes>(bytes: &B, directory: u16) -> bool
+    ensures { result ≡ true → (f : List ℕ) → B.is_of bytes.now f → is_level f directory ≡ true }
+{
+    directory == 0 || known_value(bytes, directory, tags::NEW_SUBFILE_TYPE, 0) == Some(1)
+}
+
+/// Returns a value of the field `tag` that isn't read: the first one among the values 0 of the file's levels. Returns `None` where no such
+/// value is known. A mask's field may have another value, which is no reason for a fault.
 pub fn found_value<B: KnownBytes>(bytes: &B, tag: u16) -> Option<u64>
     ensures unread { IfSome result (λ v. is_read tag v ≡ false) }
     ensures there { IfSome result (λ v. (f : List ℕ) → B.is_of bytes.now f → HasValue f tag v) }
 {
     let directories = known_directories(bytes)?;
     for directory in 0..directories {
-        if let Some(value) = known_value(bytes, directory, tag, 0)
+        if is_known_level(bytes, directory)
+            && let Some(value) = known_value(bytes, directory, tag, 0)
             && !is_read(tag, value)
         {
             return Some(value);

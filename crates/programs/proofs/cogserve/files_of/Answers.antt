@@ -6,7 +6,7 @@ use Rattle.programs.proofs.cogserve.files_of.Goals as goal
 
 pub loop-word-preserved : goal.loop-word-preserved
 loop-word-preserved g c =
-    next_file c.args.words.now c.loop-word.word-index _ c.loop-word.files.items c.add_file.new.files.items c.in_ok-file_of.field-0
+    next_file c.args.verify c.args.words.now c.loop-word.word-index _ c.loop-word.files.items c.add_file.new.files.items c.in_ok-file_of.field-0
     c.loop-word.invariant (search rules) c.in_ok-file_of.ensures.ok c.in_ok-add_file.ensures
 
 pub returns-in_err-file_of-clause-told : goal.returns-in_err-file_of-clause-told
