@@ -48,8 +48,8 @@ pub fn law_nothing_left_is_reported()
     law_missing_is_exact();
 }
 
-/// States that a client asks for missing blocks, each of which touches a range that its query needs. Where it looks no
-/// block ahead, all of them are of one range.
+/// States that a client with a revision asks for missing blocks, each of which touches a range that its query needs.
+/// Where it looks no block ahead, all of them are of one range.
 pub fn law_needed_are_asked()
     ensures needed { NeededAreAsked }
     ensures one { OneRangeIsAsked }

@@ -41,7 +41,8 @@ pub trait Pieces {
         ensures counted { count self.new ≡ count self.old + 1 };
 
     /// Writes the next bytes of the answer to the front of `out`, which isn't empty. Returns how many there are, 0 at
-    /// the end. Fails with `Lost` where the rest of the answer is lost, or may be.
+    /// the end. Of these bytes the contract speaks only where the source speaks for a book. Fails with `Lost` where the
+    /// rest of the answer is lost, or may be.
     fn next(&mut self, out: &mut [u8]) -> Result<usize, Lost>
         requires { 0 < length out.old }
         ensures fits { IfOk result (λ n. n ≤ length out.new) }

@@ -1,7 +1,8 @@
 //! How a client asks.
 use http_range::RequestFields;
 
-/// The most bytes of a request of a client that `Client::new` made. The limit is our own.
+/// The most bytes of a request of a plain client, as `Client::new` makes it, to which no field was added. The limit is
+/// our own.
 pub const REQUEST_LIMIT: usize = 1024;
 
 /// The most bytes of any client's request. The limit is our own.

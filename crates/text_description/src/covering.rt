@@ -208,9 +208,10 @@ fn met_by(
     }
 }
 
-/// Returns the window of the pixels of a level that a rectangle meets: the smallest one of whole pixels that covers what of it lies in the
-/// image. A side of the rectangle within a millionth of a pixel of a pixel's edge counts as that edge. For a level that the file doesn't
-/// have, it is a window that the file doesn't have, either. Fails where the rectangle gives no window.
+/// Returns the window of the pixels of a level that a rectangle meets: the smallest one of whole pixels that is to cover what of it lies in
+/// the image. It is computed in rounded doubles, and no contract says that it covers the rectangle. A side of the rectangle within a
+/// millionth of a pixel of a pixel's edge counts as that edge. For a level that the file doesn't have, it is a window that the file doesn't
+/// have, either. Fails where the rectangle gives no window.
 pub fn window_covering(info: &Info, bounds: &Bounds, level: u32) -> Result<Query, NoPixels>
     ensures met { result ≡ window_covering info.now bounds.now level }
     ensures level { IfOk result (IsOfLevel level) }

@@ -22,7 +22,7 @@ use tiff_dir::Query;
 pub enum Call<'a> {
     /// It is asked this query.
     Open(Query),
-    /// It forgets everything but its name and its query.
+    /// It forgets everything but its host, its name, its query and how it asks.
     Forget,
     /// Its request is answered.
     AskFrom,

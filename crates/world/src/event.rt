@@ -25,7 +25,7 @@ pub enum Event {
         client: u32,
         query: Query,
     },
-    /// Client `client` forgets everything but its name and its query.
+    /// Client `client` forgets everything but its host, its name, its query and how it asks.
     Forget(u32),
     /// The server is sent a message, whatever its bytes.
     Ask(Vec<u8>),

@@ -15,8 +15,8 @@ pub enum Handing {
     Pieces(usize),
 }
 
-/// Hands an answer, or a front of one, over to a client, which takes it the same either way. Fails where no memory is left, which may be
-/// before the last piece: then a front of it was delivered.
+/// Hands an answer, or a front of one, over to a client. While memory lasts, pieces meet the contract that `deliver` has for the whole
+/// text. Fails where no memory is left, which may be before the last piece: then a front of it was delivered.
 pub fn hand_over(client: &mut Client, text: &[u8], how: Handing) -> Result<Delivered, Memory>
     ensures ok { IfOk result (λ what. DeliversKeeping client.old text.now what client.new) }
     ensures err { OnErr result ((front : List ℕ) × IsFront front text.now × StopsDelivery client.old front client.new) }

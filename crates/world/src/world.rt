@@ -80,7 +80,7 @@ pub fn run(alloc: Global, events: &[Event], log: &mut Log) -> Result<(), Memory>
 }
 
 /// Runs the events as `run` does, but hands each answer over in pieces of `piece` bytes, but at least one each. All holds that holds of
-/// `run`. A log can't show the size of the pieces, since a client takes an answer the same way however it is cut.
+/// `run`. No contract says how long the pieces are: each answer meets the contract of `deliver`, however it is cut.
 pub fn run_cut(alloc: Global, events: &[Event], piece: usize, log: &mut Log) -> Result<(), Memory>
     requires entries { log.old.entries.items ≡ [] }
     requires clients { log.old.clients.items ≡ [] }

@@ -13,9 +13,10 @@ use http_range::law_requests_are_short;
 
 #[tactic(auto, unfolding(crate::specs::Client::asked_of, crate::specs::Client::blocks_of, crate::specs::Client::reader_of, crate::specs::Client::to_come, crate::specs::Client::Knows))]
 impl Client {
-    /// Returns at most `most` requests that may be sent before the answer to the last one. They stand in the order in
-    /// which `request` would make them if each answer came whole. No missing block is left out before one of them, if
-    /// it is known to be wanted. There are none where requests close their connections or don't look ahead.
+    /// Returns at most `most` requests that may be sent before the answer to the last one. Their byte ranges ascend, and
+    /// no two share a byte. No missing block is left out before one of them, if it is known to be wanted. There are none
+    /// where requests close their connections or don't look ahead. `request` is to make them in this order if each
+    /// answer comes whole. No contract says so.
     ///
     /// A sender may write them one after another on a connection (RFC 9112, section 9.3.2). It takes the answers as
     /// ever: `request` makes each of them once more in its turn. It makes another one where an answer came otherwise.
