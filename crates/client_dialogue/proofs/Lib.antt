@@ -4,3 +4,4 @@ mod Results
 mod UsefulLemmas
 mod TruthLemmas
 mod EarlyLemmas
+mod StatusLemmas

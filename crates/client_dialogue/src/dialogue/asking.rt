@@ -1,5 +1,5 @@
 //! Requests are sent.
-ghost use Rattle.std.specs.Prelude.{◌≡◌, ◌≢◌, ◌-◌, ◌<◌, [], false, true, Some, IfOk, OnErr, OnOk};
+ghost use Rattle.std.specs.Prelude.{◌≡◌, ◌≢◌, ◌-◌, ◌<◌, ◌⊎◌, [], false, true, Some, IfOk, OnErr, OnOk};
 ghost use Rattle.client_connection.specs.Status.{after_ask, over};
 ghost use Rattle.cog_client.specs.Client.{ClientState};
 ghost use Rattle.cog_client.specs.Keeps.{RequestsKeeping};
@@ -17,6 +17,7 @@ impl Dialogue {
     pub(super) fn ask(&mut self, client: &mut Client) -> Result<Step, Memory>
         requires { self.old.asked ≡ false }
         ensures other { IfOk result (λ step. step ≢ Connect) }
+        ensures which { IfOk result (λ step. (step ≡ More) ⊎ (step ≡ Step.Over)) }
         ensures goes { IfOk result (λ step. Goes (rounds_of step) [] self.old client.old self.new client.new) }
         ensures says { IfOk result (λ step. Says step self.new client.new) }
         ensures err { OnErr result (Goes Fails [] self.old client.old self.new client.new) }
@@ -60,7 +61,6 @@ impl Dialogue {
         self.looks = turn == Turn::Sends;
         self.is_early = turn == Turn::Sent;
         self.is_shared = self.is_early;
-        self.status = 0;
         Ok(())
     }
 
