@@ -5,3 +5,4 @@ mod UsefulLemmas
 mod TruthLemmas
 mod EarlyLemmas
 mod StatusLemmas
+mod WaitsLemmas

@@ -92,6 +92,10 @@ abbrev pub Advances : Talk → ℕ → Step → Type 0
 Advances t n step = (step ≡ More → (0 < n) ⊎ (t.asked ≡ false))
     × ((e : Exchanged) → step ≡ AnExchange e → IsSome t.status.left ⊎ (0 < n))
 
+-- While a connection stays, what waits to be written stays. More may wait after it.
+abbrev pub KeepsWaits : Status → Status → Type 0
+KeepsWaits s t = t.is_open ≡ true → (s.is_open ≡ true) × ((more : List ℕ) × (t.waits ≡ s.waits ++ more))
+
 -- If an exchange is over, its status is that of this head.
 abbrev pub HasStatusOf : List ℕ → Step → Type 0
 HasStatusOf head step = (e : Exchanged) → step ≡ AnExchange e → IsStatusOf head e.status

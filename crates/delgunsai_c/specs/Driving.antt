@@ -1,8 +1,8 @@
 -- What a driver's call from C does to what its handle holds, and what it says in numbers.
-use Rattle.std.specs.Prelude.{◌≡◌, ◌⊎◌, ◌≤◌, ℕ, ℤ, pos, Bool, if◌then◌else◌, List, [], length, take, Option, None, Some, Result, Ok, Err}
+use Rattle.std.specs.Prelude.{◌≡◌, ◌⊎◌, ◌<◌, ◌≤◌, ℕ, ℤ, pos, Bool, if◌then◌else◌, List, [], length, take, Option, None, Some, Result, Ok, Err}
 use Rattle.client_connection.specs.Status.{Status}
 use Rattle.client_dialogue.specs.Checking.{AdvancesCheck, ChecksBy}
-use Rattle.client_dialogue.specs.Goes.{Advances, Fails, Goes, Says, rounds_of}
+use Rattle.client_dialogue.specs.Goes.{Advances, Fails, Goes, KeepsWaits, Says, TellsStatus, rounds_of}
 use Rattle.client_dialogue.specs.Useful.{IsStatusOf}
 use Rattle.client_dialogue.specs.declared.check.CheckStep.{CheckStep}
 use Rattle.client_dialogue.specs.declared.check.CheckStep.TheVariants as check
@@ -53,9 +53,16 @@ abbrev pub KeepsRest : Option Held → Option Held → ℤ → Type 0
 KeepsRest old new told = Drives (λ h k. k ≡ record h { client = k.client }) old new told
 
 -- The exchanges went on so, and no check is under way. Where a connection is to be made, all bytes are taken: they are of another one.
-abbrev pub GoesOn : (bytes : List ℕ) (n : ℕ) (step : Step) → Held → Held → Type 0
-GoesOn bytes n step h k = (n ≤ length bytes) × (step ≡ Connect → n ≡ length bytes) × Goes (rounds_of step) (take n bytes) h.dialogue h.client k.dialogue k.client
-    × Says step k.dialogue k.client × Advances h.dialogue n step × (k.check ≡ None) × (k.exchanges ≡ h.exchanges)
+pub record GoesOn (bytes : List ℕ) (n : ℕ) (step : Step) (h k : Held) : Type 0 where
+  pub few : n ≤ length bytes
+  pub drops : step ≡ Connect → n ≡ length bytes
+  pub goes : Goes (rounds_of step) (take n bytes) h.dialogue h.client k.dialogue k.client
+  pub says : Says step k.dialogue k.client
+  pub advances : Advances h.dialogue n step
+  pub status : 0 < length h.dialogue.status.out → TellsStatus h.dialogue.status.head (take n bytes) step
+  pub waits : KeepsWaits h.dialogue.status k.dialogue.status
+  pub check : k.check ≡ None
+  pub exchanges : k.exchanges ≡ h.exchanges
 
 -- after a step of a check nothing of it is left where it is over
 abbrev pub check_after : CheckStep → Status → Option Status

@@ -3,7 +3,7 @@ use Rattle.std.specs.Prelude.{◌≡◌, ◌⊎◌, ◌≤◌, ◌++◌, ℕ, �
 use Rattle.client_connection.specs.Status.{Status, after_gone, after_open, after_write, is_again, over}
 use Rattle.cog_client.specs.Check.{check_of}
 use Rattle.client_dialogue.specs.Checking.{IsCheckOf}
-use Rattle.client_dialogue.specs.Goes.{BeginsAnew, Fails, Goes, MakesNone, Says, rounds_of}
+use Rattle.client_dialogue.specs.Goes.{BeginsAnew, Fails, Goes, HasStatusOf, MakesNone, Says, rounds_of}
 use Rattle.client_dialogue.specs.History.{Talk}
 use Rattle.client_dialogue.specs.declared.step.Step.{Step}
 use Rattle.client_dialogue.specs.declared.step.Step.TheVariants.{More}
@@ -88,6 +88,7 @@ pub record GoesOnWithout (how : ℕ) (step : Step) (h k : Held) : Type 0 where
   pub goes : Goes (rounds_of step) [] h.dialogue h.client k.dialogue k.client
   pub says : Says step k.dialogue k.client
   pub over : k.dialogue.status.is_open ≡ false
+  pub status : HasStatusOf h.dialogue.status.head step
   pub again : step ≡ More → is_again h.dialogue.status ≡ true
   pub kept : IsSentAgain how h → step ≡ More
 

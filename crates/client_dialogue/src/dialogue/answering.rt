@@ -3,7 +3,7 @@ ghost use Rattle.std.specs.Prelude.{◌≡◌, ◌≢◌, ◌<◌, ◌≤◌, �
 ghost use Rattle.client_connection.specs.Status.{is_again};
 ghost use Rattle.client_dialogue.specs.Useful.{IsStatusOf};
 ghost use Rattle.client_dialogue.specs.declared.step.Step.TheVariants.{Connect, More};
-ghost use Rattle.client_dialogue.specs.Goes.{Fails, Goes, HasStatusOf, IsUsed, Says, TellsStatus, rounds_of};
+ghost use Rattle.client_dialogue.specs.Goes.{Fails, Goes, HasStatusOf, IsUsed, KeepsWaits, Says, TellsStatus, rounds_of};
 ghost use Rattle.client_dialogue.specs.Inside.{Concludes, Feeds, Halts, HasGoneOn, IsConcluded, IsFedBy, IsHaltedBy, given_up};
 
 use crate::dialogue::Dialogue;
@@ -45,6 +45,7 @@ impl Dialogue {
         ensures goes { IfOk result (λ progress.
             Goes (rounds_of progress.step) (take progress.count bytes.now) self.old client.old self.new client.new) }
         ensures says { IfOk result (λ progress. Says progress.step self.new client.new) }
+        ensures waits { OnOk result (KeepsWaits self.old.status self.new.status) }
         ensures status { 0 < length self.old.status.out
             → IfOk result (λ progress. TellsStatus self.old.status.head (take progress.count bytes.now) progress.step) }
         ensures some { IfOk result (λ progress. (progress.step ≡ Step.Look) ⊎ (0 < progress.count)) }
@@ -74,6 +75,7 @@ impl Dialogue {
         ensures goes { IfOk result (λ progress.
             Goes (rounds_of progress.step) (take progress.count bytes.now) self.old client.old self.new client.new) }
         ensures says { IfOk result (λ progress. Says progress.step self.new client.new) }
+        ensures waits { OnOk result (KeepsWaits self.old.status self.new.status) }
         ensures status { 0 < length self.old.status.out
             → IfOk result (λ progress. TellsStatus self.old.status.head (take progress.count bytes.now) progress.step) }
         ensures count { IfOk result (λ progress. 0 < progress.count) }
@@ -215,6 +217,7 @@ impl Dialogue {
         ensures ends { IfOk result (λ step. step ≢ More) }
         ensures goes { IfOk result (λ step. Goes (rounds_of step) [] self.old client.old self.new client.new) }
         ensures says { IfOk result (λ step. Says step self.new client.new) }
+        ensures waits { OnOk result (KeepsWaits self.old.status self.new.status) }
         ensures status { IfOk result (HasStatusOf self.old.status.head) }
         ensures err { OnErr result (Goes Fails [] self.old client.old self.new client.new) }
     {
