@@ -1,5 +1,5 @@
 -- What a call of a dialogue does: whatever happened before, something more happened after it.
-use Rattle.std.specs.Prelude.{◌≡◌, ⊤, ◌⊎◌, ◌<◌, ℕ, true, false, List, [], ◌∷◌, ◌++◌, length, IsSome}
+use Rattle.std.specs.Prelude.{◌≡◌, ⊤, ◌⊎◌, ◌<◌, ℕ, true, false, List, [], ◌∷◌, ◌++◌, length, Some, IsSome}
 use Rattle.extents.specs.declared.span.Span.{Span}
 use Rattle.client_connection.specs.Run.{Event}
 use Rattle.client_connection.specs.Run.Event.{SentEarly, Came}
@@ -82,7 +82,7 @@ abbrev pub Says : Step → Talk → ClientState → Type 0
 Says Connect t c = (t.asked ≡ true) × (t.status.is_open ≡ false)
 Says Look t c = (t.asked ≡ true) × (t.status.is_open ≡ true)
 Says Write t c = (t.asked ≡ true) × (t.status.is_open ≡ true) × (0 < length t.status.waits)
-Says Read t c = (t.asked ≡ true) × (t.status.is_open ≡ true) × (t.status.waits ≡ [])
+Says Read t c = (t.asked ≡ true) × (t.status.is_open ≡ true) × (t.status.waits ≡ []) × ¬ (t.status.left ≡ Some 0)
 Says More t c = t.asked ≡ true
 Says (AnExchange e) t c = (t.asked ≡ false) × (t.status.is_open ≡ true → IsUsed e.delivered)
 Says Over t c = (t.asked ≡ false) × ((t.exchanges ≡ 0) ⊎ IsIdle c)
