@@ -4,34 +4,12 @@ ghost use Rattle.client_connection.specs.Status.{Takes, over};
 ghost use Rattle.client_connection.specs.declared.parts.Part.TheVariants.{Body};
 ghost use Rattle.client_sockets.specs.Sockets.{Hands, IsFirstOut, IsFresh, KeepsOut, connection_of, exchanges_of, handed_of, keeps, server_of};
 
+use crate::stream::{is_quiet, read_some};
 use client_connection::{ClientConnection, Part, Turn};
 use cog_client::{Lost, Pieces};
 use http_fields::limits::HEAD_LIMIT;
-use std::io::{ErrorKind, Read, Write};
+use std::io::Write;
 use std::net::{Net, TcpStream};
-
-/// Reads what is there, or waits for it. Returns 0 at the end of the stream.
-fn read_some(stream: &mut TcpStream, out: &mut [u8]) -> Result<usize, Lost>
-    ensures { IfOk result (λ n. n ≤ length out.new) }
-{
-    for _ in 0..u64::MAX {
-        match stream.read(out) {
-            Err(error) if error.kind() == ErrorKind::Interrupted => {}
-            read => return read.map_err(|_| Lost),
-        }
-    }
-    Err(Lost)
-}
-
-/// Returns whether the stream is open and brings nothing now.
-fn is_quiet(stream: &mut TcpStream) -> bool {
-    if stream.set_nonblocking(true).is_err() {
-        return false;
-    }
-    let read = stream.read(&mut [0]);
-    let waits = matches!(read, Err(error) if error.kind() == ErrorKind::WouldBlock);
-    waits && stream.set_nonblocking(false).is_ok()
-}
 
 /// Sends requests, and brings the answers as they arrive. It speaks for no file, since no contract says what a network brings.
 ///
@@ -463,12 +441,10 @@ impl<R: Net<Stream = TcpStream> + AllocGlobal> Pieces for Socket<'_, R> {
 
     fn start(&mut self, request: &[u8]) -> Result<(), Lost>
         requires { exchanges_of self.old + 1 < 2 ^ 64 }
-        // As `send`.
+        // As `send`, and it keeps the trait's law.
         ensures front { handed_of self.new ≡ 0 }
         ensures asked { OnOk result (IsFirstOut request.now self.new) }
         ensures apart { keeps self.old ≡ false → OnOk result (IsFresh self.new) }
-
-        // It keeps the trait's law.
         ensures answered { OnOk result ⊤ }
         ensures dropped { OnErr result (◌≡◌ {A = List ℕ} [] []) }
         ensures told { OnErr result (IsTrue true) }
