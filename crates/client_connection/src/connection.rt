@@ -1,5 +1,5 @@
 //! A client's end of its connections.
-ghost use Rattle.std.specs.Prelude.{◌≡◌, ◌<◌, ◌≤◌, ◌∷◌, ◌++◌, ◌⊎◌, ℕ, [], false, true, None, Some, Ok, Err, IfOk, IfSome, IsSome, OnErr, OnOk, drop, length, min, take};
+ghost use Rattle.std.specs.Prelude.{◌≡◌, ◌<◌, ◌≤◌, ◌∷◌, ◌++◌, ◌⊎◌, ℕ, List, [], false, true, None, Some, Ok, Err, IfOk, IfSome, IsSome, OnErr, OnOk, drop, length, min, take};
 ghost use Rattle.http_range.specs.declared.frame.Frame.{Frame};
 ghost use Rattle.http_range.specs.declared.reading.Why.TheVariants.{Head};
 ghost use Rattle.http_range.specs.Frame.{is_interim, ReadsFrame};
@@ -366,6 +366,8 @@ impl ClientConnection {
     pub fn unsent<'a>(&self, requests: &'a [Vec<u8>]) -> &'a [Vec<u8>]
         ensures fresh { self.now.kept ≡ false → result.now ≡ [] }
         ensures rest { (result.now ≡ []) ⊎ (texts requests.now ≡ drop 1 self.now.out ++ texts result.now) }
+        ensures all { self.now.kept ≡ true → (last : List (List ℕ)) → texts requests.now ≡ drop 1 self.now.out ++ last
+            → texts result.now ≡ last }
     {
         if !self.kept {
             return &[];

@@ -1,28 +1,26 @@
 -- What a query, an exchange and their ends make of a history.
-use Rattle.std.proofs.Common.{◌≡◌, ◌⊎◌, ℕ, zero, suc, ◌+◌, ◌-◌, ◌<◌, ◌≤◌, Bool, true, false, List, [], ◌∷◌, ◌++◌, length, take, drop, Option, Some, None, refl, sym, ap, ◌∙◌, subst, arith, inl, inr, append_assoc, append-nil, length-take, take-append-drop}
-use Rattle.std.specs.Prelude.{⊤, IfOk, OnOk, Result, Ok, Err, ◌&&◌, if◌then◌else◌, is_none, not, IsSome}
+use Rattle.std.proofs.Common.{◌≡◌, ℕ, suc, ◌+◌, ◌-◌, ◌<◌, Bool, true, false, List, [], ◌∷◌, ◌++◌, length, take, Option, Some, None, refl, sym, ap, ◌∙◌, subst, arith, inl, inr, append-nil, length-take, take-append-drop}
+use Rattle.std.specs.Prelude.{IfOk, OnOk, Result, Ok, Err, ◌&&◌, if◌then◌else◌}
 use Rattle.std.specs.Str.{bytes_eq}
 use Rattle.std.proofs.lemmas.Bool.{cases_Bool}
 use Rattle.std.proofs.lemmas.Slice.Eq.{bytes_eq-Decides}
-use Rattle.http_range.specs.declared.frame.Frame.{Frame}
 use Rattle.client_connection.specs.declared.parts.Part.{Part}
 use Rattle.client_connection.specs.declared.parts.Part.TheVariants.{Again, Begun, Body, Head, Interim, Refused, Stray}
 use Rattle.client_connection.specs.declared.parts.Turn.{Turn}
 use Rattle.client_connection.specs.declared.parts.Turn.TheVariants.{Anew, Sends, Sent}
-use Rattle.client_connection.specs.Status.{Status, Takes, after_ask, after_finish, after_gone, after_open, after_write, head_left, is_again, is_empty, over, sends, turn_after, turn_of, turned, is_between}
-use Rattle.client_connection.specs.Run.{AnswersAreInOrder, CanHappen, CanRun, Connection, Event, IsLive, IsNow, IsOrderly, IsUnderWay, Past, asks, happened, none_yet, run}
-use Rattle.client_connection.specs.Run.Event.{Asked, Came, Ended, Finished, Gone, Opened, SentEarly, Wrote}
+use Rattle.client_connection.specs.Status.{Status, Takes, after_ask, after_finish, after_gone, head_left, is_again, over, turn_after, turn_of, turned, is_between}
+use Rattle.client_connection.specs.Run.{AnswersAreInOrder, Connection, IsLive, Past, asks, happened, none_yet}
+use Rattle.client_connection.specs.Run.Event.{Asked, Came, Ended, Finished, Gone}
 use Rattle.cog_client.specs.declared.delivered.Delivered.{Delivered}
-use Rattle.cog_client.specs.AnswerPhase.{nothing_fed}
-use Rattle.cog_client.specs.Client.{ClientState, feed_of}
+use Rattle.cog_client.specs.Client.{ClientState}
 use Rattle.cog_client.specs.FedClient.{AnswersBeginAnywhere, Fed}
-use Rattle.cog_client.specs.Keeps.{DeliversKeeping, RequestsKeeping, StopsAsking, StopsDelivery}
-use Rattle.client_dialogue.specs.History.{AreOwn, AreRounds, Exchange, History, IsFresh, IsHistory, IsPlaced, IsRound, IsSomewhere, IsUnder, Round, Talk, begun, connections_of, fed_of, past_of}
-use Rattle.client_dialogue.specs.History.Round.{LetGo, Made, Rested, Stopped, Unasked}
-use Rattle.client_dialogue.specs.Goes.{AreTaken, BeginsAnew, Continues, Fails, Goes, MakesNone, MakesOne, Stays, came_by}
-use Rattle.client_dialogue.specs.Inside.{Concludes, Feeds, Halts, HasGoneOn, IsConcluded, IsFedBy, IsHaltedBy, given_up}
+use Rattle.cog_client.specs.Keeps.{RequestsKeeping, StopsAsking}
+use Rattle.client_dialogue.specs.History.{AreOwn, Exchange, IsFresh, IsPlaced, IsRound, IsUnder, Round, Talk, begun, connections_of, fed_of, past_of}
+use Rattle.client_dialogue.specs.History.Round.{Made, Rested, Unasked}
+use Rattle.client_dialogue.specs.Goes.{BeginsAnew, Fails, Goes, MakesNone, MakesOne, Stays}
+use Rattle.client_dialogue.specs.Inside.{Concludes, Halts, HasGoneOn, IsConcluded, IsFedBy, IsHaltedBy, given_up}
 use Rattle.client_dialogue.specs.declared.step.Step.{Step}
-use Rattle.client_dialogue.specs.declared.step.Step.TheVariants.{Exchanged as AnExchange, More}
+use Rattle.client_dialogue.specs.declared.step.Step.TheVariants.{More}
 use Rattle.client_dialogue.specs.Goes.{rounds_of}
 use Rattle.client_dialogue.proofs.HistoryLemmas.{IsQuiet, IsTextOf, begun_goes, begun_on, body_goes, both_true, build, can-end, ended_adds, ends_goes, few_at, gone_adds, halted_goes, live_of, made_goes, next, none_goes, open_fresh, own_next, quiet_goes, run-end, same_came, then_let_go, under_false, under_true}
 

@@ -1,30 +1,22 @@
 -- Histories go on by what each call does.
-use Rattle.std.proofs.Common.{◌≡◌, ◌⊎◌, ℕ, zero, suc, ◌+◌, ◌-◌, ◌<◌, ◌≤◌, Bool, true, false, List, [], ◌∷◌, ◌++◌, length, take, drop, Option, Some, None, refl, sym, ap, ◌∙◌, subst, arith, inl, inr, append_assoc, append-nil, length-take, take-append-drop}
-use Rattle.std.specs.Prelude.{⊤, IfOk, OnOk, Result, Ok, Err, ◌&&◌, if◌then◌else◌, is_none, not, IsSome}
-use Rattle.std.specs.Str.{bytes_eq}
+use Rattle.std.proofs.Common.{◌≡◌, ◌⊎◌, ℕ, ◌+◌, ◌<◌, ◌≤◌, Bool, true, false, List, [], ◌∷◌, ◌++◌, length, take, Option, Some, None, refl, sym, ap, ◌∙◌, subst, arith, inl, inr, append_assoc, append-nil, length-take, take-append-drop}
+use Rattle.std.specs.Prelude.{⊤, ◌&&◌, if◌then◌else◌, is_none, not}
 use Rattle.std.proofs.lemmas.Bool.{cases_Bool}
-use Rattle.std.proofs.lemmas.Slice.Eq.{bytes_eq-Decides}
-use Rattle.http_range.specs.declared.frame.Frame.{Frame}
-use Rattle.client_connection.specs.Answers.{Answer, bytes_of}
+use Rattle.client_connection.specs.Answers.{bytes_of}
 use Rattle.client_connection.specs.declared.parts.Part.{Part}
 use Rattle.client_connection.specs.declared.parts.Part.TheVariants.{Again, Begun, Body, Head, Interim, Refused, Stray}
 use Rattle.client_connection.specs.declared.parts.Turn.{Turn}
 use Rattle.client_connection.specs.declared.parts.Turn.TheVariants.{Anew, Sends, Sent}
-use Rattle.client_connection.specs.Status.{Status, Takes, after_ask, after_finish, after_gone, after_open, after_write, is_again, is_empty, over, sends, turn_after, turn_of, turned, is_between}
-use Rattle.client_connection.specs.Run.{AnswersAreInOrder, CanHappen, CanRun, Connection, Event, IsLive, IsNow, IsOrderly, IsUnderWay, Past, asks, happened, none_yet, run}
+use Rattle.client_connection.specs.Status.{Status, Takes, after_gone, after_open, after_write, is_again, is_empty, over, sends, turn_of, is_between}
+use Rattle.client_connection.specs.Run.{AnswersAreInOrder, CanHappen, CanRun, Connection, Event, IsLive, IsNow, IsUnderWay, Past, asks, happened, none_yet, run}
 use Rattle.client_connection.specs.Run.Event.{Asked, Came, Ended, Finished, Gone, Opened, SentEarly, Wrote}
 use Rattle.cog_client.specs.declared.delivered.Delivered.{Delivered}
-use Rattle.cog_client.specs.AnswerPhase.{nothing_fed}
-use Rattle.cog_client.specs.Client.{ClientState, feed_of}
-use Rattle.cog_client.specs.FedClient.{AnswersBeginAnywhere, Fed}
-use Rattle.cog_client.specs.Keeps.{DeliversKeeping, RequestsKeeping, StopsAsking, StopsDelivery}
-use Rattle.client_dialogue.specs.History.{AreOwn, AreRounds, Exchange, History, IsBegunOn, IsFresh, IsHistory, IsOn, IsOwn, IsPlaced, IsRound, IsSomewhere, IsUnder, Round, Talk, begun, connections_of, fed_of, past_of}
+use Rattle.cog_client.specs.Client.{ClientState}
+use Rattle.cog_client.specs.FedClient.{Fed}
+use Rattle.client_dialogue.specs.History.{AreOwn, AreRounds, Exchange, History, IsBegunOn, IsFresh, IsHistory, IsOn, IsOwn, IsPlaced, IsRound, IsUnder, Round, Talk, begun, connections_of, fed_of, past_of}
 use Rattle.client_dialogue.specs.History.Round.{LetGo, Made, Rested, Stopped, Unasked}
-use Rattle.client_dialogue.specs.Goes.{AreEarlyFor, AreTaken, BeginsAnew, Continues, Fails, Goes, IsEarlyFor, MakesNone, MakesOne, Stays, came_by}
-use Rattle.client_dialogue.specs.Inside.{Concludes, Feeds, Halts, HasGoneOn, IsConcluded, IsFedBy, IsHaltedBy, given_up}
-use Rattle.client_dialogue.specs.declared.step.Step.{Step}
-use Rattle.client_dialogue.specs.declared.step.Step.TheVariants.{Exchanged as AnExchange, More}
-use Rattle.client_dialogue.specs.Goes.{rounds_of}
+use Rattle.client_dialogue.specs.Goes.{AreEarlyFor, AreTaken, Fails, Goes, IsEarlyFor, MakesNone, MakesOne, Stays, came_by}
+use Rattle.client_dialogue.specs.Inside.{Concludes, Feeds, Halts, given_up}
 
 -- ---- one event more
 

@@ -4,3 +4,5 @@ mod Results
 mod UsefulLemmas
 mod TruthLemmas
 mod EarlyLemmas
+mod StatusLemmas
+mod WaitsLemmas

@@ -1,5 +1,5 @@
 -- Clauses of results.
-use Rattle.std.proofs.Common.{◌≡◌, Bool, true, false, Ok, Err, Result, OnErr, OnOk, refl, sym}
+use Rattle.std.proofs.Common.{◌≡◌, true, false, Ok, Err, Result, OnErr, OnOk}
 use Rattle.std.specs.Result.{is_err}
 
 pub on_err : {A E : Type 0} (r : Result A E) (P : Type 0) → P → OnErr r P

@@ -1,10 +1,10 @@
 -- What a check does, and what it says.
-use Rattle.std.specs.Prelude.{◌≡◌, ◌<◌, ◌⊎◌, ℕ, Bool, false, true, List, [], ◌∷◌, length, Option, None, Some, IsSome}
+use Rattle.std.specs.Prelude.{◌≡◌, ◌<◌, ◌⊎◌, ℕ, false, true, List, [], ◌∷◌, length, Option, None, Some, IsSome}
 use Rattle.client_connection.specs.Status.{Status, Takes, over}
 use Rattle.client_connection.specs.declared.parts.Part.{Part}
 use Rattle.cog_client.specs.Check.{IsCurrent}
 use Rattle.cog_client.specs.Client.{ClientState, tag_of}
-use Rattle.client_dialogue.specs.declared.check.Check.{Check}
+use Rattle.cog_client.specs.declared.delivered.Current.{Current}
 use Rattle.client_dialogue.specs.declared.check.CheckStep.{CheckStep}
 use Rattle.client_dialogue.specs.declared.check.CheckStep.TheVariants.{Checked, Connect, More, Read, Write}
 
@@ -25,3 +25,7 @@ ChecksBy c Write bytes old new = (new ≡ old) × (bytes ≡ []) × (old.is_open
 ChecksBy c Read bytes old new = (new ≡ old) × (bytes ≡ []) × (old.is_open ≡ true) × (old.waits ≡ [])
 ChecksBy c More bytes old new = (part : Part) × Takes part bytes old new
 ChecksBy c (Checked current) bytes old new = (new ≡ old) × (bytes ≡ []) × IsAnswered old × IsCurrent (tag_of c) old.head current
+
+-- Once the head is whole or the connection over, the check says what it says. After More bytes were taken.
+abbrev pub AdvancesCheck : Status → ℕ → CheckStep → Type 0
+AdvancesCheck s n step = (IsAnswered s → (current : Current) × (step ≡ Checked current)) × (step ≡ More → 0 < n)

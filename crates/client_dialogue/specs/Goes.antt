@@ -1,8 +1,8 @@
 -- What a call of a dialogue does: whatever happened before, something more happened after it.
-use Rattle.std.specs.Prelude.{◌≡◌, ⊤, ◌⊎◌, ◌<◌, ℕ, Bool, true, false, List, [], ◌∷◌, ◌++◌, length, Option, Some, None}
+use Rattle.std.specs.Prelude.{◌≡◌, ⊤, ◌⊎◌, ◌<◌, ℕ, true, false, List, [], ◌∷◌, ◌++◌, length, Some, IsSome}
 use Rattle.extents.specs.declared.span.Span.{Span}
 use Rattle.client_connection.specs.Run.{Event}
-use Rattle.client_connection.specs.Run.Event.{Asked, SentEarly, Opened, Wrote, Came, Finished, Gone, Ended}
+use Rattle.client_connection.specs.Run.Event.{SentEarly, Came}
 use Rattle.client_connection.specs.Status.{Status}
 use Rattle.cog_client.specs.declared.delivered.Delivered.{Delivered}
 use Rattle.cog_client.specs.declared.delivered.Delivered.TheVariants.{Ignored, Restarted, Took}
@@ -11,6 +11,7 @@ use Rattle.cog_client.specs.Client.{ClientState}
 use Rattle.cog_client.specs.Early.{IsEarly, IsRequestFor}
 use Rattle.client_dialogue.specs.History.{Exchange, History, IsHistory, Round, Talk}
 use Rattle.client_dialogue.specs.History.Round.{LetGo, Made, Rested, Stopped, Unasked}
+use Rattle.client_dialogue.specs.Useful.{IsStatusOf}
 use Rattle.client_dialogue.specs.declared.step.Exchanged.{Exchanged}
 use Rattle.client_dialogue.specs.declared.step.Step.{Step}
 use Rattle.client_dialogue.specs.declared.step.Step.TheVariants.{Connect, Exchanged as AnExchange, Look, More, Over, Read, Write}
@@ -81,10 +82,27 @@ abbrev pub Says : Step → Talk → ClientState → Type 0
 Says Connect t c = (t.asked ≡ true) × (t.status.is_open ≡ false)
 Says Look t c = (t.asked ≡ true) × (t.status.is_open ≡ true)
 Says Write t c = (t.asked ≡ true) × (t.status.is_open ≡ true) × (0 < length t.status.waits)
-Says Read t c = (t.asked ≡ true) × (t.status.is_open ≡ true) × (t.status.waits ≡ [])
+Says Read t c = (t.asked ≡ true) × (t.status.is_open ≡ true) × (t.status.waits ≡ []) × ¬ (t.status.left ≡ Some 0)
 Says More t c = t.asked ≡ true
 Says (AnExchange e) t c = (t.asked ≡ false) × (t.status.is_open ≡ true → IsUsed e.delivered)
 Says Over t c = (t.asked ≡ false) × ((t.exchanges ≡ 0) ⊎ IsIdle c)
+
+-- After More bytes were taken, or no exchange was under way. An exchange ends by bytes that came, or after a head that was whole.
+abbrev pub Advances : Talk → ℕ → Step → Type 0
+Advances t n step = (step ≡ More → (0 < n) ⊎ (t.asked ≡ false))
+    × ((e : Exchanged) → step ≡ AnExchange e → IsSome t.status.left ⊎ (0 < n))
+
+-- While a connection stays, what waits to be written stays. More may wait after it.
+abbrev pub KeepsWaits : Status → Status → Type 0
+KeepsWaits s t = t.is_open ≡ true → (s.is_open ≡ true) × ((more : List ℕ) × (t.waits ≡ s.waits ++ more))
+
+-- If an exchange is over, its status is that of this head.
+abbrev pub HasStatusOf : List ℕ → Step → Type 0
+HasStatusOf head step = (e : Exchanged) → step ≡ AnExchange e → IsStatusOf head e.status
+
+-- The head is what was there of it, or that with these bytes.
+abbrev pub TellsStatus : List ℕ → List ℕ → Step → Type 0
+TellsStatus head bytes step = HasStatusOf head step ⊎ HasStatusOf (head ++ bytes) step
 
 -- Between exchanges a query of any client may begin, of which so many exchanges are allowed.
 abbrev pub BeginsAnew : ℕ → Talk → Talk → Type 0

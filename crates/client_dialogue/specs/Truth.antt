@@ -1,5 +1,5 @@
 -- What is true of all histories.
-use Rattle.std.specs.Prelude.{◌≡◌, ⊤, ℕ, false, List, [], ◌∷◌, IfSome}
+use Rattle.std.specs.Prelude.{◌≡◌, ⊤, ℕ, false, List, [], ◌∷◌}
 use Rattle.http_range.specs.Book.{Book, HasDistinctTags}
 use Rattle.http_range.specs.Honest.{IsPieceOfBook, IsReadAs}
 use Rattle.client_connection.specs.Run.{IsOrderly}

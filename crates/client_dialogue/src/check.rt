@@ -2,7 +2,7 @@
 ghost use Rattle.std.specs.Prelude.{◌≡◌, ◌≤◌, [], false, IfOk, OnErr, OnOk, length, take};
 ghost use Rattle.client_connection.specs.Status.{after_gone, after_open, after_write, over};
 ghost use Rattle.cog_client.specs.Check.{check_of};
-ghost use Rattle.client_dialogue.specs.Checking.{ChecksBy, IsCheckOf};
+ghost use Rattle.client_dialogue.specs.Checking.{AdvancesCheck, ChecksBy, IsCheckOf};
 ghost use Rattle.client_dialogue.specs.Useful.{IsStatusOf};
 
 use crate::dialogue::status_of;
@@ -114,6 +114,7 @@ impl Check {
         ensures few { IfOk result (λ progress. progress.count ≤ length bytes.now) }
         ensures drops { IfOk result (λ progress. progress.step ≡ CheckStep.Connect → progress.count ≡ length bytes.now) }
         ensures does { IfOk result (λ progress. ChecksBy client.now progress.step (take progress.count bytes.now) self.old self.new) }
+        ensures advances { IfOk result (λ progress. AdvancesCheck self.old progress.count progress.step) }
         ensures err { OnErr result (self.new ≡ over []) }
     {
         let is_over = !self.connection.is_asked() || self.connection.left().is_some();

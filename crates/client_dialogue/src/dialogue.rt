@@ -1,8 +1,8 @@
 //! The exchanges of a client, one after another.
-ghost use Rattle.std.specs.Prelude.{◌≡◌, ◌≤◌, [], false, true, IfOk, OnErr, OnOk, length, take};
-ghost use Rattle.client_connection.specs.Status.{after_write, over};
-ghost use Rattle.client_dialogue.specs.Goes.{BeginsAnew, Fails, Goes, MakesNone, Says, rounds_of};
-ghost use Rattle.client_dialogue.specs.declared.step.Step.TheVariants.{Connect};
+ghost use Rattle.std.specs.Prelude.{◌≡◌, ◌<◌, ◌≤◌, [], false, true, IfOk, OnErr, OnOk, length, take};
+ghost use Rattle.client_connection.specs.Status.{after_open, after_write, is_again, over};
+ghost use Rattle.client_dialogue.specs.Goes.{Advances, BeginsAnew, Fails, Goes, HasStatusOf, KeepsWaits, MakesNone, Says, TellsStatus, rounds_of};
+ghost use Rattle.client_dialogue.specs.declared.step.Step.TheVariants.{Connect, More};
 
 mod answering;
 mod asking;
@@ -35,8 +35,6 @@ pub struct Dialogue {
     is_early: bool,
     /// Whether other requests were sent with it.
     is_shared: bool,
-    /// The status code of the answer, or 0.
-    status: u16,
     /// How many bytes of the body are still read.
     useful: u64,
     /// How many requests may be sent early.
@@ -65,7 +63,6 @@ impl Dialogue {
             looks: false,
             is_early: false,
             is_shared: false,
-            status: 0,
             useful: 0,
             depth: depth.min(MOST_EARLY),
             losses: 0,
@@ -138,6 +135,9 @@ impl Dialogue {
         requires { self.old.asked ≡ true }
         ensures ok { OnOk result (Goes MakesNone [] self.old client.now self.new client.now) }
         ensures opens { OnOk result (self.new.status.is_open ≡ true) }
+        ensures opened { OnOk result (self.old.status.is_open ≡ false
+            → self.new ≡ record self.old { status = after_open self.old.status }) }
+        ensures same { self.old.status.is_open ≡ true → OnOk result (self.new ≡ self.old) }
         ensures err { OnErr result (Goes Fails [] self.old client.now self.new client.now) }
     {
         if self.connection.is_open() {
@@ -164,6 +164,10 @@ impl Dialogue {
         ensures goes { IfOk result (λ progress.
             Goes (rounds_of progress.step) (take progress.count bytes.now) self.old client.old self.new client.new) }
         ensures says { IfOk result (λ progress. Says progress.step self.new client.new) }
+        ensures waits { OnOk result (KeepsWaits self.old.status self.new.status) }
+        ensures advances { IfOk result (λ progress. Advances self.old progress.count progress.step) }
+        ensures status { 0 < length self.old.status.out
+            → IfOk result (λ progress. TellsStatus self.old.status.head (take progress.count bytes.now) progress.step) }
         ensures err { OnErr result (Goes Fails [] self.old client.old self.new client.new) }
     {
         if !self.asked {
@@ -206,6 +210,10 @@ impl Dialogue {
         requires { self.old.asked ≡ true }
         ensures goes { IfOk result (λ step. Goes (rounds_of step) [] self.old client.old self.new client.new) }
         ensures says { IfOk result (λ step. Says step self.new client.new) }
+        ensures over { self.new.status.is_open ≡ false }
+        ensures status { IfOk result (HasStatusOf self.old.status.head) }
+        ensures again { IfOk result (λ step. step ≡ More → is_again self.old.status ≡ true) }
+        ensures kept { ¬ (how ≡ Loss.Late) → is_again self.old.status ≡ true → result ≡ Ok More }
         ensures err { OnErr result (Goes Fails [] self.old client.old self.new client.new) }
     {
         self.count_loss(how);

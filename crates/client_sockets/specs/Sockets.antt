@@ -1,5 +1,5 @@
 -- What others know of a source over sockets.
-use Rattle.std.specs.Prelude.{◌≡◌, ◌⊎◌, ◌≤◌, ◌+◌, ℕ, Bool, List, length, take, drop, IsSome}
+use Rattle.std.specs.Prelude.{◌≡◌, ◌⊎◌, ◌≤◌, ◌+◌, ℕ, Bool, false, List, ◌∷◌, length, take, drop, IsSome}
 use Rattle.client_connection.specs.Status.{Status, Takes}
 use Rattle.client_connection.specs.declared.parts.Part.TheVariants.{Body}
 use Rattle.client_sockets.specs.declared.socket.Socket.{Socket}
@@ -19,6 +19,18 @@ keeps s = s.keeps
 -- the client's end of its connections
 abbrev pub connection_of : {R : Type 0} → Socket R → Status
 connection_of s = s.connection
+
+-- The answer to this request comes next.
+abbrev pub IsFirstOut : {R : Type 0} → List ℕ → Socket R → Type 0
+IsFirstOut request s = (early : List (List ℕ)) × ((connection_of s).out ≡ request ∷ early)
+
+-- The connection wasn't kept after an answer.
+abbrev pub IsFresh : {R : Type 0} → Socket R → Type 0
+IsFresh s = (connection_of s).kept ≡ false
+
+-- Requests that were out still are, or the first one of them alone.
+abbrev pub KeepsOut : {R : Type 0} → Socket R → Socket R → Type 0
+KeepsOut s t = ((connection_of t).out ≡ (connection_of s).out) ⊎ ((connection_of t).out ≡ take 1 (connection_of s).out)
 
 -- how many bytes of the answer's head were handed on
 abbrev pub handed_of : {R : Type 0} → Socket R → ℕ

@@ -3,5 +3,6 @@
 #![tactic(auto)]
 
 mod socket;
+mod stream;
 
 pub use socket::Socket;

@@ -1,37 +1,15 @@
 //! Connections to a server that is named by its address: one for each request, or one that is kept from answer to answer.
-ghost use Rattle.std.specs.Prelude.{◌≡◌, ◌<◌, ◌≤◌, ◌+◌, ℕ, [], None, Some, false, true, IfOk, IsSome, drop, length, take};
+ghost use Rattle.std.specs.Prelude.{◌≡◌, ◌<◌, ◌≤◌, ◌+◌, ℕ, [], None, Some, false, true, IfOk, IsSome, OnOk, drop, length, take};
 ghost use Rattle.client_connection.specs.Status.{Takes, over};
 ghost use Rattle.client_connection.specs.declared.parts.Part.TheVariants.{Body};
-ghost use Rattle.client_sockets.specs.Sockets.{Hands, connection_of, exchanges_of, handed_of, keeps, server_of};
+ghost use Rattle.client_sockets.specs.Sockets.{Hands, IsFirstOut, IsFresh, KeepsOut, connection_of, exchanges_of, handed_of, keeps, server_of};
 
+use crate::stream::{is_quiet, read_some};
 use client_connection::{ClientConnection, Part, Turn};
 use cog_client::{Lost, Pieces};
 use http_fields::limits::HEAD_LIMIT;
-use std::io::{ErrorKind, Read, Write};
+use std::io::Write;
 use std::net::{Net, TcpStream};
-
-/// Reads what is there, or waits for it. Returns 0 at the end of the stream.
-fn read_some(stream: &mut TcpStream, out: &mut [u8]) -> Result<usize, Lost>
-    ensures { IfOk result (λ n. n ≤ length out.new) }
-{
-    for _ in 0..u64::MAX {
-        match stream.read(out) {
-            Err(error) if error.kind() == ErrorKind::Interrupted => {}
-            read => return read.map_err(|_| Lost),
-        }
-    }
-    Err(Lost)
-}
-
-/// Returns whether the stream is open and brings nothing now.
-fn is_quiet(stream: &mut TcpStream) -> bool {
-    if stream.set_nonblocking(true).is_err() {
-        return false;
-    }
-    let read = stream.read(&mut [0]);
-    let waits = matches!(read, Err(error) if error.kind() == ErrorKind::WouldBlock);
-    waits && stream.set_nonblocking(false).is_ok()
-}
 
 /// Sends requests, and brings the answers as they arrive. It speaks for no file, since no contract says what a network brings.
 ///
@@ -119,6 +97,10 @@ impl<'r, R: Net<Stream = TcpStream> + AllocGlobal> Socket<'r, R> {
         ensures server { server_of self.new ≡ server_of self.old }
         ensures exchanges { exchanges_of self.new ≡ exchanges_of self.old }
         ensures keeps { keeps self.new ≡ keeps self.old }
+        // Nothing of its answer was handed on. The answer that comes next is its own, and on a new connection where none is kept.
+        ensures front { handed_of self.new ≡ 0 }
+        ensures asked { OnOk result (IsFirstOut request.now self.new) }
+        ensures apart { keeps self.old ≡ false → OnOk result (IsFresh self.new) }
     {
         self.begin();
         match self.connection.ask(request) {
@@ -138,6 +120,8 @@ impl<'r, R: Net<Stream = TcpStream> + AllocGlobal> Socket<'r, R> {
         ensures server { server_of self.new ≡ server_of self.old }
         ensures exchanges { exchanges_of self.new ≡ exchanges_of self.old }
         ensures keeps { keeps self.new ≡ keeps self.old }
+        ensures front { handed_of self.new ≡ 0 }
+        ensures apart { keeps self.old ≡ false → connection_of self.new ≡ over [] }
     {
         self.handed = 0;
         self.is_over = false;
@@ -152,6 +136,8 @@ impl<'r, R: Net<Stream = TcpStream> + AllocGlobal> Socket<'r, R> {
         ensures server { server_of self.new ≡ server_of self.old }
         ensures exchanges { exchanges_of self.new ≡ exchanges_of self.old }
         ensures keeps { keeps self.new ≡ keeps self.old }
+        ensures handed { handed_of self.new ≡ handed_of self.old }
+        ensures no { keeps self.old ≡ false → result ≡ false }
     {
         if self.connection.is_asked() {
             return self.keeps;
@@ -167,6 +153,8 @@ impl<'r, R: Net<Stream = TcpStream> + AllocGlobal> Socket<'r, R> {
         ensures server { server_of self.new ≡ server_of self.old }
         ensures exchanges { exchanges_of self.new ≡ exchanges_of self.old }
         ensures keeps { keeps self.new ≡ keeps self.old }
+        ensures handed { handed_of self.new ≡ handed_of self.old }
+        ensures out { OnOk result (KeepsOut self.old self.new) }
     {
         if self.write() {
             return Ok(());
@@ -185,6 +173,8 @@ impl<'r, R: Net<Stream = TcpStream> + AllocGlobal> Socket<'r, R> {
         ensures exchanges { exchanges_of self.new ≡ exchanges_of self.old }
         ensures keeps { keeps self.new ≡ keeps self.old }
         ensures handed { handed_of self.new ≡ handed_of self.old }
+        ensures out { OnOk result ((connection_of self.new).out ≡ take 1 (connection_of self.old).out) }
+        ensures fresh { OnOk result (IsFresh self.new) }
     {
         if self.try_connect() {
             return Ok(());
@@ -199,6 +189,8 @@ impl<'r, R: Net<Stream = TcpStream> + AllocGlobal> Socket<'r, R> {
         ensures exchanges { exchanges_of self.new ≡ exchanges_of self.old }
         ensures keeps { keeps self.new ≡ keeps self.old }
         ensures handed { handed_of self.new ≡ handed_of self.old }
+        ensures out { result ≡ true → (connection_of self.new).out ≡ take 1 (connection_of self.old).out }
+        ensures fresh { result ≡ true → IsFresh self.new }
     {
         self.unread.clear();
         self.stream = TcpStream::connect(self.rt, self.server).ok();
@@ -216,6 +208,8 @@ impl<'r, R: Net<Stream = TcpStream> + AllocGlobal> Socket<'r, R> {
         ensures exchanges { exchanges_of self.new ≡ exchanges_of self.old }
         ensures keeps { keeps self.new ≡ keeps self.old }
         ensures handed { handed_of self.new ≡ handed_of self.old }
+        ensures out { (connection_of self.new).out ≡ (connection_of self.old).out }
+        ensures kept { (connection_of self.new).kept ≡ (connection_of self.old).kept }
         ensures status { result ≡ false → connection_of self.new ≡ connection_of self.old }
     {
         let Some(stream) = &mut self.stream else {
@@ -434,10 +428,10 @@ impl<'r, R: Net<Stream = TcpStream> + AllocGlobal> Socket<'r, R> {
 }
 
 impl<R: Net<Stream = TcpStream> + AllocGlobal> Pieces for Socket<'_, R> {
-    ghost use Rattle.std.specs.Prelude.{◌≡◌, ◌<◌, ◌≤◌, [], true, IfOk, IsTrue, OnErr, OnOk, length, take, ⊤};
+    ghost use Rattle.std.specs.Prelude.{◌≡◌, ◌+◌, ◌<◌, ◌≤◌, ◌^◌, ℕ, List, [], false, true, IfOk, IsTrue, OnErr, OnOk, length, take, ⊤};
     ghost use Rattle.cog_client.specs.Pieces.{BringsOf};
-    ghost use Rattle.cog_client.specs.Transport.{AnswersOn, OrLost, SpeaksOn};
-    ghost use Rattle.client_sockets.specs.Sockets.{Hands, exchanges_of, keeps, Nothing};
+    ghost use Rattle.cog_client.specs.Transport.{AnswersOn, IsTrueToAll, OrLost, SpeaksOn};
+    ghost use Rattle.client_sockets.specs.Sockets.{Hands, IsFirstOut, IsFresh, Nothing, exchanges_of, handed_of, keeps};
 
     ghost speaks_for = { λ _ _. Nothing };
 
@@ -445,7 +439,21 @@ impl<R: Net<Stream = TcpStream> + AllocGlobal> Pieces for Socket<'_, R> {
 
     ghost rest = { λ _. [] };
 
-    fn start(&mut self, request: &[u8]) -> Result<(), Lost> {
+    fn start(&mut self, request: &[u8]) -> Result<(), Lost>
+        requires { exchanges_of self.old + 1 < 2 ^ 64 }
+        // As `send`, and it keeps the trait's law.
+        ensures front { handed_of self.new ≡ 0 }
+        ensures asked { OnOk result (IsFirstOut request.now self.new) }
+        ensures apart { keeps self.old ≡ false → OnOk result (IsFresh self.new) }
+        ensures answered { OnOk result ⊤ }
+        ensures dropped { OnErr result (◌≡◌ {A = List ℕ} [] []) }
+        ensures told { OnErr result (IsTrue true) }
+        ensures kept { OnOk result (true ≡ true) }
+        ensures goes_on { AnswersOn (OrLost (λ _ _. ⊤)) (OrLost (λ _ _. ⊤)) }
+        ensures shows { OnOk result (IsTrueToAll (λ _. Nothing) []) }
+        ensures speaks { SpeaksOn (λ _. Nothing) (λ _. Nothing) }
+        ensures counted { exchanges_of self.new ≡ exchanges_of self.old + 1 }
+    {
         self.exchanges += 1;
         self.send(request)
     }

@@ -1,1 +1,2 @@
 mod AsBox
+mod BeginsLemmas

@@ -1,8 +1,9 @@
 -- What a driver's call from C does to what its handle holds, and what it says in numbers.
-use Rattle.std.specs.Prelude.{◌≡◌, ◌⊎◌, ◌≤◌, ℕ, ℤ, pos, Bool, if◌then◌else◌, List, [], length, take, Option, None, Some, Result, Ok, Err}
+use Rattle.std.specs.Prelude.{◌≡◌, ◌⊎◌, ◌<◌, ◌≤◌, ℕ, ℤ, pos, Bool, if◌then◌else◌, List, [], length, take, Option, None, Some, Result, Ok, Err}
 use Rattle.client_connection.specs.Status.{Status}
-use Rattle.client_dialogue.specs.Checking.{ChecksBy}
-use Rattle.client_dialogue.specs.Goes.{Fails, Goes, Says, rounds_of}
+use Rattle.client_dialogue.specs.Checking.{AdvancesCheck, ChecksBy}
+use Rattle.client_dialogue.specs.Goes.{Advances, Fails, Goes, KeepsWaits, Says, TellsStatus, rounds_of}
+use Rattle.client_dialogue.specs.Useful.{IsStatusOf}
 use Rattle.client_dialogue.specs.declared.check.CheckStep.{CheckStep}
 use Rattle.client_dialogue.specs.declared.check.CheckStep.TheVariants as check
 use Rattle.client_dialogue.specs.declared.step.Step.{Step}
@@ -47,30 +48,42 @@ abbrev pub Drives : (Held → Held → Type 0) → Option Held → Option Held �
 Drives does old new told = ((h : Held) × (k : Held) × (old ≡ Some h) × (new ≡ Some k) × does h k)
     ⊎ ((old ≡ None) × (new ≡ None) × (told ≡ code_of NoClient))
 
+-- Only the client changes: its exchanges, the check and the limit of exchanges stay.
+abbrev pub KeepsRest : Option Held → Option Held → ℤ → Type 0
+KeepsRest old new told = Drives (λ h k. k ≡ record h { client = k.client }) old new told
+
 -- The exchanges went on so, and no check is under way. Where a connection is to be made, all bytes are taken: they are of another one.
-abbrev pub GoesOn : (bytes : List ℕ) (n : ℕ) (step : Step) → Held → Held → Type 0
-GoesOn bytes n step h k = (n ≤ length bytes) × (step ≡ Connect → n ≡ length bytes) × Goes (rounds_of step) (take n bytes) h.dialogue h.client k.dialogue k.client
-    × Says step k.dialogue k.client × (k.check ≡ None)
+pub record GoesOn (bytes : List ℕ) (n : ℕ) (step : Step) (h k : Held) : Type 0 where
+  pub few : n ≤ length bytes
+  pub drops : step ≡ Connect → n ≡ length bytes
+  pub goes : Goes (rounds_of step) (take n bytes) h.dialogue h.client k.dialogue k.client
+  pub says : Says step k.dialogue k.client
+  pub advances : Advances h.dialogue n step
+  pub status : 0 < length h.dialogue.status.out → TellsStatus h.dialogue.status.head (take n bytes) step
+  pub waits : KeepsWaits h.dialogue.status k.dialogue.status
+  pub check : k.check ≡ None
+  pub exchanges : k.exchanges ≡ h.exchanges
 
 -- after a step of a check nothing of it is left where it is over
 abbrev pub check_after : CheckStep → Status → Option Status
 check_after (check.Checked current) s = None
 check_after step s = Some s
 
--- The check went on so; client and exchanges stay. Where a connection is to be made, all bytes are taken.
-abbrev pub ChecksOn : (bytes : List ℕ) (n : ℕ) (step : CheckStep) → Status → Held → Held → Type 0
-ChecksOn bytes n step s h k = (n ≤ length bytes) × (step ≡ check.Connect → n ≡ length bytes) × (k.dialogue ≡ h.dialogue) × (k.client ≡ h.client)
-    × ((new : Status) × ChecksBy h.client step (take n bytes) s new × (k.check ≡ check_after step new))
+-- The check went on so, and its answer has this status code so far. Nothing else changes. Where a connection is to be made, all bytes are
+-- taken.
+abbrev pub ChecksOn : (bytes : List ℕ) (n : ℕ) (step : CheckStep) (status : ℕ) → Status → Held → Held → Type 0
+ChecksOn bytes n step status s h k = (n ≤ length bytes) × (step ≡ check.Connect → n ≡ length bytes) × AdvancesCheck s n step
+    × ((new : Status) × ChecksBy h.client step (take n bytes) s new × IsStatusOf new.head status × (k ≡ record h { check = check_after step new }))
 
 abbrev pub DrivesBy : Option Status → List ℕ → NextStep → Held → Held → Type 0
 DrivesBy None bytes out h k = (n : ℕ) × (step : Step) × (out ≡ numbers_of n step) × GoesOn bytes n step h k
 DrivesBy (Some s) bytes out h k =
-    (n : ℕ) × (step : CheckStep) × (status : ℕ) × (out ≡ check_numbers_of n step status) × ChecksOn bytes n step s h k
+    (n : ℕ) × (step : CheckStep) × (status : ℕ) × (out ≡ check_numbers_of n step status) × ChecksOn bytes n step status s h k
 
 -- Memory was wanting: the exchange is over, or the check is.
 abbrev pub FailsBy : Option Status → Held → Held → Type 0
-FailsBy None h k = Goes Fails [] h.dialogue h.client k.dialogue k.client × (k.check ≡ None)
-FailsBy (Some s) h k = (k.dialogue ≡ h.dialogue) × (k.client ≡ h.client) × (k.check ≡ None)
+FailsBy None h k = Goes Fails [] h.dialogue h.client k.dialogue k.client × (k.check ≡ None) × (k.exchanges ≡ h.exchanges)
+FailsBy (Some s) h k = k ≡ record h { check = None }
 
 -- the step is laid into the room, and the number is 0; or the room stays, and the number says that memory was wanting
 abbrev pub TellsStep : Result NextStep NoMemory → NextStep → NextStep → ℤ → Type 0

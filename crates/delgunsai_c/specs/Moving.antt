@@ -1,10 +1,12 @@
 -- What becomes of what a handle holds where its driver notes something of the connection.
-use Rattle.std.specs.Prelude.{◌≡◌, ◌⊎◌, ◌≤◌, ◌++◌, ℕ, ℤ, pos, true, false, List, [], length, take, drop, Option, None, Some, Result, Ok, Err}
-use Rattle.client_connection.specs.Status.{Status, after_gone, after_open, after_write, over}
+use Rattle.std.specs.Prelude.{◌≡◌, ◌⊎◌, ◌≤◌, ◌++◌, ℕ, ℤ, pos, true, false, List, [], length, take, drop, Option, None, Some, IsSome, Result, Ok, Err}
+use Rattle.client_connection.specs.Status.{Status, after_gone, after_open, after_write, is_again, over}
 use Rattle.cog_client.specs.Check.{check_of}
 use Rattle.client_dialogue.specs.Checking.{IsCheckOf}
-use Rattle.client_dialogue.specs.Goes.{BeginsAnew, Fails, Goes, MakesNone, Says, rounds_of}
+use Rattle.client_dialogue.specs.Goes.{BeginsAnew, Fails, Goes, HasStatusOf, MakesNone, Says, rounds_of}
+use Rattle.client_dialogue.specs.History.{Talk}
 use Rattle.client_dialogue.specs.declared.step.Step.{Step}
+use Rattle.client_dialogue.specs.declared.step.Step.TheVariants.{More}
 use Rattle.extents.specs.declared.memory.Memory.{Memory as NoMemory}
 use Rattle.delgunsai_c.specs.declared.driving.NextStep.{NextStep}
 use Rattle.delgunsai_c.specs.declared.failure.Failure.TheVariants.{Memory, Order}
@@ -40,7 +42,7 @@ LaysWaiting h room left told = LaysFront (waits_of h) room left told
 abbrev pub WritesBy : Option Status → ℕ → Held → Held → Type 0
 WritesBy None count h k =
     Goes MakesNone [] h.dialogue h.client k.dialogue k.client × (k.client ≡ h.client) × (k.check ≡ None)
-    × (k.dialogue ≡ record h.dialogue { status = after_write count h.dialogue.status })
+    × (k.dialogue ≡ record h.dialogue { status = after_write count h.dialogue.status }) × (k.exchanges ≡ h.exchanges)
 WritesBy (Some s) count h k = k ≡ record h { check = Some (after_write count s) }
 
 -- A check is under way, or an exchange on a connection that is there.
@@ -59,9 +61,14 @@ abbrev pub OpensCheck : ℤ → Status → Status → Type 0
 OpensCheck told s new = ((told ≡ pos 0) × (new ≡ after_open s)) ⊎ ((told ≡ code_of Memory) × (new ≡ over []))
     ⊎ ((told ≡ code_of Order) × (new ≡ s) × (s.is_open ≡ true))
 
+-- a connection is there: a new one, or the one that was there
+abbrev pub IsOpened : Talk → Talk → Type 0
+IsOpened t u = (u.status.is_open ≡ true) × (t.status.is_open ≡ false → u ≡ record t { status = after_open t.status })
+    × (t.status.is_open ≡ true → u ≡ t)
+
 abbrev pub ConnectsBy : Option Status → ℤ → Held → Held → Type 0
-ConnectsBy None told h k = (k.client ≡ h.client) × (k.check ≡ None)
-    × (((told ≡ pos 0) × Goes MakesNone [] h.dialogue h.client k.dialogue k.client × (k.dialogue.status.is_open ≡ true))
+ConnectsBy None told h k = (k.client ≡ h.client) × (k.check ≡ None) × (k.exchanges ≡ h.exchanges)
+    × (((told ≡ pos 0) × Goes MakesNone [] h.dialogue h.client k.dialogue k.client × IsOpened h.dialogue k.dialogue)
     ⊎ ((told ≡ code_of Memory) × Goes Fails [] h.dialogue h.client k.dialogue k.client))
 ConnectsBy (Some s) told h k = (new : Status) × OpensCheck told s new × (k ≡ record h { check = Some new })
 
@@ -72,20 +79,47 @@ Connects told h k = ConnectsBy h.check told h k
 
 -- ---- the end of a connection
 
+-- The request is out on a connection that was kept, nothing came of the answer, and the connection isn't late, which is number 3.
+abbrev pub IsSentAgain : ℕ → Held → Type 0
+IsSentAgain how h = (is_again h.dialogue.status ≡ true) × ¬ (how ≡ 3)
+
+-- The exchange went on so without its connection. Its request is sent once more, or the exchange is over.
+pub record GoesOnWithout (how : ℕ) (step : Step) (h k : Held) : Type 0 where
+  pub goes : Goes (rounds_of step) [] h.dialogue h.client k.dialogue k.client
+  pub says : Says step k.dialogue k.client
+  pub over : k.dialogue.status.is_open ≡ false
+  pub status : HasStatusOf h.dialogue.status.head step
+  pub again : step ≡ More → is_again h.dialogue.status ≡ true
+  pub kept : IsSentAgain how h → step ≡ More
+
+-- No exchange was under way: nothing changes but the connection, which is over.
+pub record EndsIdle (out : NextStep) (h k : Held) : Type 0 where
+  pub idle : h.dialogue.asked ≡ false
+  pub step : out ≡ plain 8 0
+  pub begins : BeginsAnew h.dialogue.exchanges h.dialogue k.dialogue
+  pub over : k ≡ record h { dialogue = record h.dialogue { status = over [] } }
+
+-- The exchange that was under way went on so.
+pub record EndsBusy (how : ℕ) (out : NextStep) (h k : Held) : Type 0 where
+  pub busy : h.dialogue.asked ≡ true
+  pub step : Step
+  pub numbers : out ≡ numbers_of 0 step
+  pub goes_on : GoesOnWithout how step h k
+  pub check : k.check ≡ None
+  pub exchanges : k.exchanges ≡ h.exchanges
+
 -- Of a check it is noted. Where no exchange is under way a query may begin anew. Else the exchange went on so.
-abbrev pub EndsTo : Option Status → Result NextStep NoMemory → Held → Held → Type 0
-EndsTo (Some s) result h k = (result ≡ Ok (plain 8 0)) × (k ≡ record h { check = Some (after_gone s) })
-EndsTo None (Ok out) h k = (k.check ≡ None)
-    × (((out ≡ plain 8 0) × (k.client ≡ h.client) × BeginsAnew h.dialogue.exchanges h.dialogue k.dialogue)
-    ⊎ ((step : Step) × (out ≡ numbers_of 0 step) × Goes (rounds_of step) [] h.dialogue h.client k.dialogue k.client
-    × Says step k.dialogue k.client))
-EndsTo None (Err e) h k = Goes Fails [] h.dialogue h.client k.dialogue k.client × (k.check ≡ None)
+abbrev pub EndsTo : Option Status → ℕ → Result NextStep NoMemory → Held → Held → Type 0
+EndsTo (Some s) how result h k = (result ≡ Ok (plain 8 0)) × (k ≡ record h { check = Some (after_gone s) })
+EndsTo None how (Ok out) h k = EndsIdle out h k ⊎ EndsBusy how out h k
+EndsTo None how (Err e) h k = Goes Fails [] h.dialogue h.client k.dialogue k.client × (k.dialogue.status.is_open ≡ false)
+    × (IsSentAgain how h → ⊥) × (k.check ≡ None) × (k.exchanges ≡ h.exchanges)
 
-abbrev pub EndsBy : Result NextStep NoMemory → Held → Held → Type 0
-EndsBy result h k = EndsTo h.check result h k
+abbrev pub EndsBy : ℕ → Result NextStep NoMemory → Held → Held → Type 0
+EndsBy how result h k = EndsTo h.check how result h k
 
-abbrev pub EndsOr : (out left : NextStep) → ℤ → Held → Held → Type 0
-EndsOr out left told h k = (result : Result NextStep NoMemory) × EndsBy result h k × TellsStep result out left told
+abbrev pub EndsOr : (how : ℕ) (out left : NextStep) → ℤ → Held → Held → Type 0
+EndsOr how out left told h k = (result : Result NextStep NoMemory) × EndsBy how result h k × TellsStep result out left told
 
 -- ---- queries, and checks
 
@@ -97,8 +131,16 @@ pub record SetsExchanges (exchanges : ℕ) (told : ℤ) (h k : Held) : Type 0 wh
   pub most : k.exchanges ≡ exchanges
   pub begins : BeginsAnew exchanges h.dialogue k.dialogue
 
+-- A query begins without a connection, after whatever happened. The client stays.
+pub record BeginsAlone (h k : Held) : Type 0 where
+  pub client : k.client ≡ h.client
+  pub begins : BeginsAnew h.exchanges h.dialogue k.dialogue
+  pub idle : k.dialogue.asked ≡ false
+  pub over : k.dialogue.status ≡ over []
+  pub exchanges : k.exchanges ≡ h.exchanges
+
 -- The check is under way, on a connection of its own; or there is none, since the client has no revision, or for want of memory.
 abbrev pub AsksSame : ℤ → Held → Held → Type 0
-AsksSame told h k = (k.client ≡ h.client) × (k.dialogue.status ≡ over [])
+AsksSame told h k = BeginsAlone h k
     × (((told ≡ code_of Memory) × (k.check ≡ None)) ⊎ ((told ≡ pos 0) × (check_of h.client ≡ None) × (k.check ≡ None))
-    ⊎ ((told ≡ pos 1) × IsCheckOf (check_of h.client) k.check))
+    ⊎ ((told ≡ pos 1) × IsSome k.check × IsCheckOf (check_of h.client) k.check))

@@ -3,7 +3,8 @@ ghost use Rattle.std.specs.Prelude.{◌≡◌, []};
 ghost use Rattle.cog_client.specs.FedClient.{Fed};
 ghost use Rattle.delgunsai_c.specs.Answers.{EndsOr, Reads};
 ghost use Rattle.delgunsai_c.specs.Calls.{Calls, Done, FeedsOr};
-ghost use Rattle.delgunsai_c.specs.Handle.{client_of};
+ghost use Rattle.delgunsai_c.specs.Driving.{KeepsRest};
+ghost use Rattle.delgunsai_c.specs.Handle.{client_of, held_of};
 
 use crate::failure::Failure;
 use crate::handle::Handle;
@@ -37,7 +38,8 @@ fn end(client: &mut Client, said: &mut Said) -> i32
 /// Begins an answer. An unfinished one is dropped. Returns 0 or `COG_NO_CLIENT`.
 #[unsafe(no_mangle)]
 pub extern "C" fn cog_client_begin(alloc: Global, client: &mut Handle) -> i32
-    ensures { Calls (λ s t. Done (Fed s [] t) result) (client_of client.old) (client_of client.new) result }
+    ensures does { Calls (λ s t. Done (Fed s [] t) result) (client_of client.old) (client_of client.new) result }
+    ensures rest { KeepsRest (held_of client.old) (held_of client.new) result }
 {
     let Some(mut held) = client.take(alloc) else {
         return Failure::NoClient.code();
@@ -51,7 +53,8 @@ pub extern "C" fn cog_client_begin(alloc: Global, client: &mut Handle) -> i32
 /// answer is dropped.
 #[unsafe(no_mangle)]
 pub extern "C" fn cog_client_feed(alloc: Global, client: &mut Handle, piece: &[u8]) -> i32
-    ensures { Calls (FeedsOr piece.now result) (client_of client.old) (client_of client.new) result }
+    ensures does { Calls (FeedsOr piece.now result) (client_of client.old) (client_of client.new) result }
+    ensures rest { KeepsRest (held_of client.old) (held_of client.new) result }
 {
     let Some(mut held) = client.take(alloc) else {
         return Failure::NoClient.code();
@@ -66,6 +69,7 @@ pub extern "C" fn cog_client_feed(alloc: Global, client: &mut Handle, piece: &[u
 #[unsafe(no_mangle)]
 pub extern "C" fn cog_client_end(alloc: Global, client: &mut Handle, said: &mut Said) -> i32
     ensures does { Calls (EndsOr said.old said.new result) (client_of client.old) (client_of client.new) result }
+    ensures rest { KeepsRest (held_of client.old) (held_of client.new) result }
     ensures untouched { client_of client.old ≡ None → said.new ≡ said.old }
 {
     let Some(mut held) = client.take(alloc) else {
@@ -85,6 +89,7 @@ pub extern "C" fn cog_client_current(
     said: &mut Said,
 ) -> i32
     ensures does { Calls (λ s t. Done (Reads answer.now said.new s t) result) (client_of client.old) (client_of client.new) result }
+    ensures rest { KeepsRest (held_of client.old) (held_of client.new) result }
     ensures untouched { client_of client.old ≡ None → said.new ≡ said.old }
 {
     let Some(held) = client.take(alloc) else {

@@ -2,7 +2,7 @@
 ghost use Rattle.std.specs.Prelude.{◌≡◌, [], None, IfErr, IfOk, IfSome, IsSomeAnd, pos};
 ghost use Rattle.delgunsai_c.specs.Begins.{BeginsQuery, IsUnused};
 ghost use Rattle.delgunsai_c.specs.Calls.{AddsOr, Calls, Done, IsRefusal, IsUrlFailure, News, NewsOfUrl};
-ghost use Rattle.delgunsai_c.specs.Driving.{Drives};
+ghost use Rattle.delgunsai_c.specs.Driving.{Drives, KeepsRest};
 ghost use Rattle.delgunsai_c.specs.Handle.{client_of, held_of};
 ghost use Rattle.cog_client.specs.Calls.{Forgets, Starts, StartsByUrl};
 
@@ -124,7 +124,8 @@ pub extern "C" fn delgunsai_client_add_field(
     name: &[u8],
     value: &[u8],
 ) -> i32
-    ensures { Calls (AddsOr (name.now, value.now) result) (client_of client.old) (client_of client.new) result }
+    ensures does { Calls (AddsOr (name.now, value.now) result) (client_of client.old) (client_of client.new) result }
+    ensures rest { KeepsRest (held_of client.old) (held_of client.new) result }
 {
     let Some(mut held) = client.take(alloc) else {
         return Failure::NoClient.code();

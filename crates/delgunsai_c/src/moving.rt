@@ -137,7 +137,9 @@ pub extern "C" fn delgunsai_client_silent(alloc: Global, client: &mut Handle) ->
 }
 
 /// Returns how a connection was lost, by its number: 1 is ended, 3 is late, and any other is failed.
-fn loss_of(how: u32) -> Loss {
+fn loss_of(how: u32) -> Loss
+    ensures { result ≡ Loss.Late → how ≡ 3 }
+{
     match how {
         1 => Loss::Ended,
         3 => Loss::Late,
@@ -145,9 +147,9 @@ fn loss_of(how: u32) -> Loss {
     }
 }
 
-/// Notes that the connection is gone, and returns the next step. Fails where no memory is left.
-fn gone(held: &mut Held, how: Loss) -> Result<NextStep, Memory>
-    ensures { EndsBy result held.old held.new }
+/// Notes that the connection is gone, and how, and returns the next step. Fails where no memory is left.
+fn gone(held: &mut Held, how: u32) -> Result<NextStep, Memory>
+    ensures { EndsBy how result held.old held.new }
 {
     if let Some(check) = &mut held.check {
         check.gone();
@@ -157,7 +159,7 @@ fn gone(held: &mut Held, how: Loss) -> Result<NextStep, Memory>
         held.dialogue.end();
         return Ok(plain(8, 0));
     }
-    let step = held.dialogue.gone(&mut held.client, how)?;
+    let step = held.dialogue.gone(&mut held.client, loss_of(how))?;
     Ok(next_step(0, step))
 }
 
@@ -170,13 +172,13 @@ pub extern "C" fn delgunsai_client_gone(
     how: u32,
     step: &mut NextStep,
 ) -> i32
-    ensures does { Drives (EndsOr step.old step.new result) (held_of client.old) (held_of client.new) result }
+    ensures does { Drives (EndsOr how step.old step.new result) (held_of client.old) (held_of client.new) result }
     ensures untouched { held_of client.old ≡ None → step.new ≡ step.old }
 {
     let Some(mut held) = client.take(alloc) else {
         return Failure::NoClient.code();
     };
-    let gone = gone(&mut held, loss_of(how));
+    let gone = gone(&mut held, how);
     let told = lay_step(gone, step);
     client.put(held);
     told
@@ -213,8 +215,7 @@ pub extern "C" fn delgunsai_client_exchanges(
 fn ask_same(alloc: Global, held: &mut Held) -> i32
     ensures { AsksSame result held.old held.new }
 {
-    held.begin_query();
-    held.dialogue.end();
+    held.begin_alone();
     match Check::new(alloc, &held.client) {
         Ok(Some(check)) => {
             held.check = Some(check);

@@ -1,7 +1,8 @@
 //! Calls that read the report. A text that is longer than its room isn't copied.
 ghost use Rattle.std.specs.Prelude.{◌≡◌};
 ghost use Rattle.delgunsai_c.specs.Calls.{Calls, Kept};
-ghost use Rattle.delgunsai_c.specs.Handle.{client_of};
+ghost use Rattle.delgunsai_c.specs.Driving.{KeepsRest};
+ghost use Rattle.delgunsai_c.specs.Handle.{client_of, held_of};
 ghost use Rattle.delgunsai_c.specs.Told.{TellsInfo, TellsPixels, TellsReport, kind_told, told_of};
 
 use crate::failure::Failure;
@@ -122,6 +123,7 @@ pub extern "C" fn cog_client_report(
 ) -> i64
     ensures does { Calls (λ s t. Kept (TellsReport s out.old out.new tag.old tag.new result) s t)
         (client_of client.old) (client_of client.new) result }
+    ensures rest { KeepsRest (held_of client.old) (held_of client.new) result }
     ensures out_untouched { client_of client.old ≡ None → out.new ≡ out.old }
     ensures tag_untouched { client_of client.old ≡ None → tag.new ≡ tag.old }
 {
@@ -139,6 +141,7 @@ pub extern "C" fn cog_client_report(
 pub extern "C" fn cog_client_pixels(alloc: Global, client: &mut Handle, room: &mut [u8]) -> i64
     ensures does { Calls (λ s t. Kept (TellsPixels s room.old room.new result) s t)
         (client_of client.old) (client_of client.new) result }
+    ensures rest { KeepsRest (held_of client.old) (held_of client.new) result }
     ensures untouched { client_of client.old ≡ None → room.new ≡ room.old }
 {
     let Some(held) = client.take(alloc) else {
@@ -155,6 +158,7 @@ pub extern "C" fn cog_client_pixels(alloc: Global, client: &mut Handle, room: &m
 pub extern "C" fn cog_client_info(alloc: Global, client: &mut Handle, room: &mut [u8]) -> i64
     ensures does { Calls (λ s t. Kept (TellsInfo s room.old room.new result) s t)
         (client_of client.old) (client_of client.new) result }
+    ensures rest { KeepsRest (held_of client.old) (held_of client.new) result }
     ensures untouched { client_of client.old ≡ None → room.new ≡ room.old }
 {
     let Some(held) = client.take(alloc) else {

@@ -3,7 +3,8 @@
 ghost use Rattle.std.specs.Prelude.{◌≡◌};
 ghost use Rattle.cog_client.specs.Keeps.{KeepsOpen, LooksAhead};
 ghost use Rattle.delgunsai_c.specs.Calls.{AsksOr, Calls, ChecksOr, Done, ForetellsOr};
-ghost use Rattle.delgunsai_c.specs.Handle.{client_of};
+ghost use Rattle.delgunsai_c.specs.Driving.{KeepsRest};
+ghost use Rattle.delgunsai_c.specs.Handle.{client_of, held_of};
 
 use crate::failure::Failure;
 use crate::handle::Handle;
@@ -49,7 +50,8 @@ fn later(client: &Client, index: u32, room: &mut [u8]) -> i64
 /// Makes requests from here on such that a connection may be kept from one to the next. Returns 0 or `COG_NO_CLIENT`.
 #[unsafe(no_mangle)]
 pub extern "C" fn cog_client_keep_open(alloc: Global, client: &mut Handle) -> i32
-    ensures { Calls (λ s t. Done (KeepsOpen s t) result) (client_of client.old) (client_of client.new) result }
+    ensures does { Calls (λ s t. Done (KeepsOpen s t) result) (client_of client.old) (client_of client.new) result }
+    ensures rest { KeepsRest (held_of client.old) (held_of client.new) result }
 {
     let Some(mut held) = client.take(alloc) else {
         return Failure::NoClient.code();
@@ -62,7 +64,8 @@ pub extern "C" fn cog_client_keep_open(alloc: Global, client: &mut Handle) -> i3
 /// Looks ahead by `blocks` blocks from here on. Returns 0 or `COG_NO_CLIENT`.
 #[unsafe(no_mangle)]
 pub extern "C" fn cog_client_look_ahead(alloc: Global, client: &mut Handle, blocks: u32) -> i32
-    ensures { Calls (λ s t. Done (LooksAhead blocks s t) result) (client_of client.old) (client_of client.new) result }
+    ensures does { Calls (λ s t. Done (LooksAhead blocks s t) result) (client_of client.old) (client_of client.new) result }
+    ensures rest { KeepsRest (held_of client.old) (held_of client.new) result }
 {
     let Some(mut held) = client.take(alloc) else {
         return Failure::NoClient.code();
@@ -77,6 +80,7 @@ pub extern "C" fn cog_client_look_ahead(alloc: Global, client: &mut Handle, bloc
 #[unsafe(no_mangle)]
 pub extern "C" fn cog_client_request(alloc: Global, client: &mut Handle, room: &mut [u8]) -> i64
     ensures does { Calls (AsksOr room.old room.new result) (client_of client.old) (client_of client.new) result }
+    ensures rest { KeepsRest (held_of client.old) (held_of client.new) result }
     ensures untouched { client_of client.old ≡ None → room.new ≡ room.old }
 {
     let Some(mut held) = client.take(alloc) else {
@@ -92,6 +96,7 @@ pub extern "C" fn cog_client_request(alloc: Global, client: &mut Handle, room: &
 #[unsafe(no_mangle)]
 pub extern "C" fn cog_client_check(alloc: Global, client: &mut Handle, room: &mut [u8]) -> i64
     ensures does { Calls (ChecksOr room.old room.new result) (client_of client.old) (client_of client.new) result }
+    ensures rest { KeepsRest (held_of client.old) (held_of client.new) result }
     ensures untouched { client_of client.old ≡ None → room.new ≡ room.old }
 {
     let Some(held) = client.take(alloc) else {
@@ -112,6 +117,7 @@ pub extern "C" fn cog_client_later(
     room: &mut [u8],
 ) -> i64
     ensures does { Calls (ForetellsOr index room.old room.new result) (client_of client.old) (client_of client.new) result }
+    ensures rest { KeepsRest (held_of client.old) (held_of client.new) result }
     ensures untouched { client_of client.old ≡ None → room.new ≡ room.old }
 {
     let Some(held) = client.take(alloc) else {

@@ -14,7 +14,10 @@ use Rattle.cog_reader.specs.Outcome.{IsInfoOf}
 use Rattle.cog_client.specs.declared.report.Report.{Report}
 use Rattle.cog_client.specs.Report.{IsTrueReport}
 use Rattle.text_description.specs.Covering.{window_covering}
+use Rattle.text_description.specs.Text.{IsJson, IsLine}
 use Rattle.text_description.specs.declared.covering.Bounds.{Bounds}
+use Rattle.text_description.specs.declared.description.Form.{Form}
+use Rattle.text_description.specs.declared.description.Form.TheVariants.{Json}
 use Rattle.text_description.specs.World.{world_file}
 use Rattle.text_description.specs.declared.world.WorldFile.{WorldFile}
 use Rattle.text_report.specs.InfoText.{IsOfTag}
@@ -85,14 +88,19 @@ abbrev pub GivesNone : Asked → Outcome → NotGiven → Type 0
 GivesNone (asked.Part part) (outcome.Info i) why = part_given i part ≡ Err why
 GivesNone a o why = ⊥
 
--- A text, or a fault of the file, is what an outcome says of the file of this tag: a window is written as a graymap or a pixmap, and of a
--- part of a level nothing else. The text of Info begins with the line of the tag, and it and a description have no samples. That there is no
--- report is said of a part of a level alone, where Info gave its window last. That a rectangle has no window, or a window no world file, is what Info says of the file.
+-- a description for programs is JSON, with the end of a line after it
+abbrev pub IsInForm : Form → List ℕ → Type 0
+IsInForm form text = form ≡ Json → IsLine IsJson text
+
+-- A text, or a fault of the file, is what an outcome says of the file of this tag. A window is written as a graymap or a pixmap, and of a
+-- part of a level nothing else. The text of Info begins with the line of the tag. A description has the form that was asked for. Neither has
+-- samples. That there is no report is said of a part of a level alone, where Info gave its window last. That a rectangle has no window, or a
+-- window no world file, is what Info says of the file.
 abbrev pub IsWritten : Asked → (tag : List ℕ) → Outcome → Result Text ReadError → Type 0
 IsWritten a tag (outcome.Window v) (Ok text) = text.head.items ++ text.samples.now ≡ netpbm v.samples v.bits v.w v.h v.pixels.items
 IsWritten (asked.Query query) tag (outcome.Info i) (Ok text) = IsOfTag tag text.head.items × (text.samples.now ≡ [])
 IsWritten (asked.Part part) tag (outcome.Info i) (Ok text) = ⊥
-IsWritten (asked.Description form) tag (outcome.Info i) (Ok text) = text.samples.now ≡ []
+IsWritten (asked.Description form) tag (outcome.Info i) (Ok text) = IsInForm form text.head.items × (text.samples.now ≡ [])
 IsWritten a tag (outcome.Fault fault) written = written ≡ Err (OfFile fault)
 IsWritten a tag o (Err NoReport) = GivesWindow a o
 IsWritten a tag o (Err (NoWindow why)) = GivesNone a o (not_given.NoWindow why)

@@ -72,6 +72,8 @@ impl<'a, 'r, R, P> Noted<'a, 'r, R, P> {
         ensures sent { sent_of result ≡ false }
         ensures bytes { bytes_of result ≡ 0 }
         ensures front { front_of result ≡ [] }
+        ensures range { range_of result ≡ [] }
+        ensures before { before_of result ≡ record { had = 0; asked = 0; bytes = 0 } }
     {
         Noted {
             source,

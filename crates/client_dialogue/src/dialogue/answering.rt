@@ -1,8 +1,9 @@
 //! Answers are taken.
-ghost use Rattle.std.specs.Prelude.{◌≡◌, ◌≢◌, ◌<◌, ◌≤◌, [], false, true, Some, IfOk, IsSome, OnErr, OnOk, length, take};
+ghost use Rattle.std.specs.Prelude.{◌≡◌, ◌≢◌, ◌<◌, ◌≤◌, ◌⊎◌, [], false, true, Some, IfOk, IsSome, OnErr, OnOk, length, take};
+ghost use Rattle.client_connection.specs.Status.{is_again};
 ghost use Rattle.client_dialogue.specs.Useful.{IsStatusOf};
 ghost use Rattle.client_dialogue.specs.declared.step.Step.TheVariants.{Connect, More};
-ghost use Rattle.client_dialogue.specs.Goes.{Fails, Goes, IsUsed, Says, rounds_of};
+ghost use Rattle.client_dialogue.specs.Goes.{Fails, Goes, HasStatusOf, IsUsed, KeepsWaits, Says, TellsStatus, rounds_of};
 ghost use Rattle.client_dialogue.specs.Inside.{Concludes, Feeds, Halts, HasGoneOn, IsConcluded, IsFedBy, IsHaltedBy, given_up};
 
 use crate::dialogue::Dialogue;
@@ -44,6 +45,10 @@ impl Dialogue {
         ensures goes { IfOk result (λ progress.
             Goes (rounds_of progress.step) (take progress.count bytes.now) self.old client.old self.new client.new) }
         ensures says { IfOk result (λ progress. Says progress.step self.new client.new) }
+        ensures waits { OnOk result (KeepsWaits self.old.status self.new.status) }
+        ensures status { 0 < length self.old.status.out
+            → IfOk result (λ progress. TellsStatus self.old.status.head (take progress.count bytes.now) progress.step) }
+        ensures some { IfOk result (λ progress. (progress.step ≡ Step.Look) ⊎ (0 < progress.count)) }
         ensures err { OnErr result (Goes Fails [] self.old client.old self.new client.new) }
     {
         if bytes.is_empty() {
@@ -70,6 +75,10 @@ impl Dialogue {
         ensures goes { IfOk result (λ progress.
             Goes (rounds_of progress.step) (take progress.count bytes.now) self.old client.old self.new client.new) }
         ensures says { IfOk result (λ progress. Says progress.step self.new client.new) }
+        ensures waits { OnOk result (KeepsWaits self.old.status self.new.status) }
+        ensures status { 0 < length self.old.status.out
+            → IfOk result (λ progress. TellsStatus self.old.status.head (take progress.count bytes.now) progress.step) }
+        ensures count { IfOk result (λ progress. 0 < progress.count) }
         ensures err { OnErr result (Goes Fails [] self.old client.old self.new client.new) }
     {
         law_answers_are_in_order();
@@ -88,6 +97,7 @@ impl Dialogue {
     /// Feeds what the bytes are that the connection took.
     fn feed_part(&mut self, client: &mut Client, part: Part, bytes: &[u8]) -> Result<Step, Memory>
         ensures other { IfOk result (λ step. step ≢ Connect) }
+        ensures status { IfOk result (HasStatusOf self.old.status.head) }
         ensures ok { IfOk result (λ step. IsFedBy part bytes.now step self.old client.old self.new client.new) }
         ensures err { OnErr result (IsHaltedBy part bytes.now self.old client.old self.new client.new) }
     {
@@ -127,7 +137,6 @@ impl Dialogue {
         ensures err { OnErr result ((self.new ≡ given_up self.old) × Halts self.old.status.head client.old client.new) }
     {
         let head = self.connection.head();
-        self.status = status_of(head);
         self.useful = useful_length(head, client.asked(), client.tag());
         self.feed_head(client)?;
         Ok(Step::More)
@@ -169,17 +178,20 @@ impl Dialogue {
     /// Ends the exchange, whose connection is over, with what came of the head.
     fn conclude_head(&mut self, client: &mut Client) -> Result<Step, Memory>
         ensures other { IfOk result (λ step. step ≢ Connect) }
+        ensures ends { IfOk result (λ step. step ≢ More) }
+        ensures status { IfOk result (HasStatusOf self.old.status.head) }
         ensures ok { IfOk result (λ step. IsConcluded step self.old client.old self.new client.new) }
         ensures err { OnErr result ((self.new ≡ given_up self.old) × Halts self.old.status.head client.old client.new) }
     {
-        self.status = status_of(self.connection.head());
+        let status = status_of(self.connection.head());
         self.feed_head(client)?;
-        let exchanged = self.conclude(client)?;
+        let exchanged = self.conclude(client, status)?;
         Ok(Step::Exchanged(exchanged))
     }
 
-    /// Ends the client's answer.
-    fn conclude(&mut self, client: &mut Client) -> Result<Exchanged, Memory>
+    /// Ends the client's answer, which has the status code `status`.
+    fn conclude(&mut self, client: &mut Client, status: u16) -> Result<Exchanged, Memory>
+        ensures status { IfOk result (λ exchanged. exchanged.status ≡ status) }
         ensures ok { IfOk result (λ exchanged.
             (self.new ≡ record self.old { asked = false }) × Concludes [] exchanged.delivered client.old client.new) }
         ensures err { OnErr result ((self.new ≡ given_up self.old) × Halts [] client.old client.new) }
@@ -191,7 +203,7 @@ impl Dialogue {
         self.asked = false;
         Ok(Exchanged {
             delivered,
-            status: self.status,
+            status,
             alone: !self.is_shared,
         })
     }
@@ -202,12 +214,16 @@ impl Dialogue {
         requires opens { self.old.status.is_open ≡ true }
         requires begun { IsSome self.old.status.left }
         ensures other { IfOk result (λ step. step ≢ Connect) }
+        ensures ends { IfOk result (λ step. step ≢ More) }
         ensures goes { IfOk result (λ step. Goes (rounds_of step) [] self.old client.old self.new client.new) }
         ensures says { IfOk result (λ step. Says step self.new client.new) }
+        ensures waits { OnOk result (KeepsWaits self.old.status self.new.status) }
+        ensures status { IfOk result (HasStatusOf self.old.status.head) }
         ensures err { OnErr result (Goes Fails [] self.old client.old self.new client.new) }
     {
         law_answers_are_in_order();
-        let exchanged = self.conclude(client)?;
+        let status = status_of(self.connection.head());
+        let exchanged = self.conclude(client, status)?;
         self.let_go_on(exchanged.delivered);
         Ok(Step::Exchanged(exchanged))
     }
@@ -231,18 +247,22 @@ impl Dialogue {
         requires { self.old.asked ≡ true }
         ensures goes { IfOk result (λ step. Goes (rounds_of step) [] self.old client.old self.new client.new) }
         ensures says { IfOk result (λ step. Says step self.new client.new) }
+        ensures status { IfOk result (HasStatusOf self.old.status.head) }
         ensures err { OnErr result (Goes Fails [] self.old client.old self.new client.new) }
         ensures over { self.new.status.is_open ≡ false }
+        ensures again { IfOk result (λ step. step ≡ More → is_again self.old.status ≡ true) }
+        ensures kept { is_again self.old.status ≡ true → result ≡ Ok More }
     {
         law_answers_are_in_order();
         let begun = self.connection.left().is_some();
+        let status = status_of(self.connection.head());
         if self.connection.gone() {
             return Ok(Step::More);
         }
         if !begun {
             return self.conclude_head(client);
         }
-        let exchanged = self.conclude(client)?;
+        let exchanged = self.conclude(client, status)?;
         Ok(Step::Exchanged(exchanged))
     }
 
@@ -251,11 +271,15 @@ impl Dialogue {
         requires { self.old.asked ≡ true }
         ensures goes { IfOk result (λ step. Goes (rounds_of step) [] self.old client.old self.new client.new) }
         ensures says { IfOk result (λ step. Says step self.new client.new) }
+        ensures status { IfOk result (HasStatusOf self.old.status.head) }
         ensures err { OnErr result (Goes Fails [] self.old client.old self.new client.new) }
+        ensures over { self.new.status.is_open ≡ false }
+        ensures ends { IfOk result (λ step. step ≢ More) }
     {
         law_answers_are_in_order();
+        let status = status_of(self.connection.head());
         self.connection.end();
-        let exchanged = self.conclude(client)?;
+        let exchanged = self.conclude(client, status)?;
         Ok(Step::Exchanged(exchanged))
     }
 }

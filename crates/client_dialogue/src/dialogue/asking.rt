@@ -1,10 +1,10 @@
 //! Requests are sent.
-ghost use Rattle.std.specs.Prelude.{◌≡◌, ◌≢◌, ◌-◌, ◌<◌, [], false, true, Some, IfOk, OnErr, OnOk};
+ghost use Rattle.std.specs.Prelude.{◌≡◌, ◌≢◌, ◌-◌, ◌<◌, ◌⊎◌, [], false, true, Some, IfOk, OnErr, OnOk};
 ghost use Rattle.client_connection.specs.Status.{after_ask, over};
 ghost use Rattle.cog_client.specs.Client.{ClientState};
 ghost use Rattle.cog_client.specs.Keeps.{RequestsKeeping};
 ghost use Rattle.client_dialogue.specs.declared.step.Step.TheVariants.{Connect, More};
-ghost use Rattle.client_dialogue.specs.Goes.{Fails, Goes, IsEarlyFor, Says, Stays, rounds_of};
+ghost use Rattle.client_dialogue.specs.Goes.{Fails, Goes, IsEarlyFor, KeepsWaits, Says, Stays, rounds_of};
 
 use crate::dialogue::Dialogue;
 use crate::step::Step;
@@ -17,8 +17,10 @@ impl Dialogue {
     pub(super) fn ask(&mut self, client: &mut Client) -> Result<Step, Memory>
         requires { self.old.asked ≡ false }
         ensures other { IfOk result (λ step. step ≢ Connect) }
+        ensures which { IfOk result (λ step. (step ≡ More) ⊎ (step ≡ Step.Over)) }
         ensures goes { IfOk result (λ step. Goes (rounds_of step) [] self.old client.old self.new client.new) }
         ensures says { IfOk result (λ step. Says step self.new client.new) }
+        ensures waits { OnOk result (KeepsWaits self.old.status self.new.status) }
         ensures err { OnErr result (Goes Fails [] self.old client.old self.new client.new) }
     {
         if self.exchanges == 0 {
@@ -37,6 +39,7 @@ impl Dialogue {
         ensures ok { OnOk result ((before : ClientState) → RequestsKeeping before (Some text.now) client.now
             → Goes Stays [] self.old before self.new client.now) }
         ensures says { IfOk result (λ step. (step ≡ More) × (self.new.asked ≡ true)) }
+        ensures waits { OnOk result (KeepsWaits self.old.status self.new.status) }
         ensures err { OnErr result ((before : ClientState) → RequestsKeeping before (Some text.now) client.now
             → Goes Fails [] self.old before self.new client.now) }
     {
@@ -60,7 +63,6 @@ impl Dialogue {
         self.looks = turn == Turn::Sends;
         self.is_early = turn == Turn::Sent;
         self.is_shared = self.is_early;
-        self.status = 0;
         Ok(())
     }
 
@@ -69,6 +71,7 @@ impl Dialogue {
         requires { self.old.asked ≡ true }
         ensures ok { OnOk result (Goes Stays [] self.old client.now self.new client.now) }
         ensures asked { OnOk result (self.new.asked ≡ true) }
+        ensures waits { OnOk result (KeepsWaits self.old.status self.new.status) }
         ensures err { OnErr result (Goes Fails [] self.old client.now self.new client.now) }
     {
         let Ok(requests) = client.early_requests(self.depth.min(self.exchanges)) else {
@@ -86,6 +89,7 @@ impl Dialogue {
         requires own { IsEarlyFor client.now text.now }
         ensures ok { OnOk result (Goes Stays [] self.old client.now self.new client.now) }
         ensures asked { OnOk result (self.new.asked ≡ true) }
+        ensures waits { OnOk result (KeepsWaits self.old.status self.new.status) }
         ensures err { OnErr result (Goes Fails [] self.old client.now self.new client.now) }
     {
         if !self.connection.is_open() {

@@ -1,7 +1,6 @@
-use Rattle.std.proofs.Common.{ℕ, List, [], Option, Some, sym, ap, subst, ◌∙◌}
+use Rattle.std.proofs.Common.{ℕ, List, Option, Some, sym, subst}
 use Rattle.std.specs.Option.{option_map}
 use Rattle.cog_client.specs.Keeps.{RequestsKeeping}
-use Rattle.client_dialogue.specs.Goes.{Fails}
 use Rattle.client_dialogue.proofs.ExchangeLemmas.{rests_goes, sent_step, unasked_goes}
 use Rattle.client_dialogue.proofs.Results.{on_err, on_err_by}
 use Rattle.client_dialogue.proofs.dialogue.Dialogue.ask.Goals as goal

@@ -1,5 +1,5 @@
 use Rattle.std.proofs.Common.{[], false, ap, sym, subst, ◌∙◌}
-use Rattle.client_connection.specs.Status.{Status, over}
+use Rattle.client_connection.specs.Status.{Status}
 use Rattle.client_dialogue.specs.History.{Talk}
 use Rattle.client_dialogue.specs.Goes.{Fails, Goes, MakesOne}
 use Rattle.client_dialogue.proofs.ExchangeLemmas.{ended_goes, stopped_goes}

@@ -1,10 +1,11 @@
-use Rattle.std.proofs.Common.{[], true, false, ap, inl, refl, sym, subst, ◌∙◌}
-use Rattle.client_connection.specs.Status.{Status, after_gone}
+use Rattle.std.proofs.Common.{◌≡◌, [], false, None, ap, inl, refl, sym, subst, ◌∙◌}
+use Rattle.client_connection.specs.Status.{Status, after_gone, is_again}
 use Rattle.client_dialogue.specs.History.{Talk}
 use Rattle.client_dialogue.specs.Goes.{Fails, Goes, MakesNone, MakesOne}
 use Rattle.client_dialogue.proofs.ExchangeLemmas.{head_step, lost_goes, stopped_goes}
 use Rattle.client_dialogue.proofs.HistoryLemmas.{again_goes, none_goes}
 use Rattle.client_dialogue.proofs.Results.{on_err, on_err_by}
+use Rattle.client_dialogue.proofs.StatusLemmas.{gone_head, none_if, same_head}
 use Rattle.client_dialogue.proofs.dialogue.Dialogue.lose.Goals as goal
 
 pub returns-then-gone-clause-goes : goal.returns-then-gone-clause-goes
@@ -47,3 +48,12 @@ returns-clause-goes c =
     subst (λ (x : Talk). Goes (MakesOne what) [] x c.args.client.now c.conclude.new.self c.conclude.new.client) c.self.view_is
     (subst (λ (x : Talk). Goes (MakesOne what) [] t c.args.client.now x c.conclude.new.client) (sym same)
     (lost_goes c.law_answers_are_in_order.ensures.order [] t c.args.client.now c.conclude.new.client what (ap (λ (x : Talk). x.asked) c.self.view_is ∙ c.requires) (inl refl) c.in_ok-exchanged.ensures.ok.1))
+
+pub returns-then-not-begun-clause-status : goal.returns-then-not-begun-clause-status
+returns-then-not-begun-clause-status c =
+    let s = c.self.inside.connection in
+    let none : s.left ≡ None = sym c.left.ensures.is ∙ none_if c.left.result (sym c.is_some-begun.ensures ∙ c.if-not-begun.true) in
+    let other : is_again s ≡ false = sym c.gone.ensures.again ∙ c.if-gone.false in
+    same_head c.conclude_head.result c.gone.new.self.head c.args.self.now.status.head
+    (ap (λ (x : Status). x.head) c.gone.ensures.after ∙ gone_head s none other ∙ ap (λ (x : Talk). x.status.head) c.self.view_is)
+    c.conclude_head.ensures.status

@@ -1,11 +1,12 @@
-use Rattle.std.proofs.Common.{◌≡◌, ℕ, List, [], false, length, length-take, take, ap, arith, sym, subst, ◌∙◌}
+use Rattle.std.proofs.Common.{◌<◌, ◌++◌, ℕ, List, [], inr, false, length, length-take, take, ap, arith, sym, subst, ◌∙◌}
 use Rattle.std.proofs.lemmas.List.{take-take}
 use Rattle.client_connection.specs.Status.{Status, Takes}
 use Rattle.client_dialogue.specs.History.{Talk}
-use Rattle.client_dialogue.specs.Goes.{Fails, Goes, rounds_of}
+use Rattle.client_dialogue.specs.Goes.{Fails, Goes, HasStatusOf, rounds_of}
 use Rattle.client_dialogue.proofs.ExchangeLemmas.{fed_goes, halt_goes}
 use Rattle.client_dialogue.proofs.HistoryLemmas.{let_go_goes}
 use Rattle.client_dialogue.proofs.Results.{on_err}
+use Rattle.client_dialogue.proofs.StatusLemmas.{fed_status}
 use Rattle.client_dialogue.proofs.dialogue.Dialogue.take.Goals as goal
 
 pub returns-in_default-clause-err : goal.returns-in_default-clause-err
@@ -36,3 +37,16 @@ returns-clause-goes c =
     (take-take n c.most-most.result c.args.bytes.now (omega (arith, c.in-Ok.ensures.few, length-take c.most-most.result c.args.bytes.now)))
     c.in-Ok.ensures.takes)
     c.in-Ok.ensures.own c.in_ok-step.ensures.ok)
+
+pub returns-clause-status : goal.returns-clause-status
+returns-clause-status c = λ some.
+    let s = c.self.inside.connection in
+    let n = c.in-Ok.taken.count in
+    let xs = take n c.args.bytes.now in
+    inr (subst (λ (x : Talk). HasStatusOf (x.status.head ++ xs) c.in_ok-step.step) c.self.view_is
+    (fed_status c.in-Ok.taken.part xs c.in_ok-step.step s c.came.new.self _ c.feed_part.new.self c.args.client.now c.feed_part.new.client
+    (subst (λ (x : Talk). 0 < length x.status.out) (sym c.self.view_is) some)
+    (subst (λ (ys : List ℕ). Takes c.in-Ok.taken.part ys s c.came.new.self)
+    (take-take n c.most-most.result c.args.bytes.now (omega (arith, c.in-Ok.ensures.few, length-take c.most-most.result c.args.bytes.now)))
+    c.in-Ok.ensures.takes)
+    c.in_ok-step.ensures.ok c.in_ok-step.ensures.status))
