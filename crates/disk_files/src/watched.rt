@@ -9,7 +9,7 @@ ghost use Rattle.cog_server.specs.Server.{IsRefusal, ServerState, refusal_of};
 ghost use Rattle.disk_files.specs.Published.{HasOther, IsFileOf, IsOfFile, IsPublished};
 ghost use Rattle.disk_files.specs.Settled.{IsSettledSince};
 ghost use Rattle.disk_files.specs.Watching.{IsRefusedBy, IsUnread, MayPass, compared_of, seen_of, verify_of};
-ghost use Rattle.disk_files.specs.declared.watched.WatchError.TheVariants.{Refused};
+ghost use Rattle.disk_files.specs.declared.watched.WatchError.TheVariants.{NotAFile, Refused};
 
 use crate::reading::{enough_of, other_bytes};
 use crate::stamp::{Stamp, is_unchanged, stamp_of};
@@ -56,6 +56,7 @@ fn remembered(metadata: &Metadata, now: Option<Duration>) -> Result<Option<Stamp
     ensures settled { IfOk result (λ seen. IfSome seen (λ stamp. IsSomeAnd now (λ n. IsSettledSince stamp.changed (as_nanos n)))) }
     ensures length { IfOk result (λ seen. IfSome seen (λ stamp. stamp.length ≡ metadata_len metadata.now)) }
     ensures file { OnOk result (IsPlainFile (file_type metadata.now)) }
+    ensures no_file { IfErr result (λ why. (why ≡ NotAFile) × ¬ IsPlainFile (file_type metadata.now)) }
     ensures refused { (s : ServerState) (name : List ℕ) → IfErr result (IsRefusedBy s name) }
 {
     if !metadata.is_file() {
@@ -152,6 +153,9 @@ impl<'a> Watched<'a> {
         ensures name { result.name ≡ name.entry }
         ensures path { result.path ≡ path.entry }
         ensures verify { verify_of result ≡ None }
+        // Nothing is remembered of it, and it wasn't compared.
+        ensures unseen { seen_of result ≡ None }
+        ensures uncompared { compared_of result ≡ 0 }
     {
         Watched::verified(name, path, None)
     }
@@ -162,6 +166,9 @@ impl<'a> Watched<'a> {
         ensures name { result.name ≡ name.entry }
         ensures path { result.path ≡ path.entry }
         ensures verify { verify_of result ≡ verify }
+        // Nothing is remembered of it, and it wasn't compared.
+        ensures unseen { seen_of result ≡ None }
+        ensures uncompared { compared_of result ≡ 0 }
     {
         Watched {
             name,
@@ -198,6 +205,9 @@ impl<'a> Watched<'a> {
         ensures seen { OnOk result (seen_of self.new ≡ seen) }
         ensures name { self.new.name ≡ self.old.name }
         ensures path { self.new.path ≡ self.old.path }
+        ensures verify { verify_of self.new ≡ verify_of self.old }
+        ensures compared { compared_of self.new ≡ compared_of self.old }
+        ensures kept { OnErr result (self.new ≡ self.old) }
     {
         law_publications_replace();
         let bytes = enough_of(alloc, file).map_err(WatchError::CantRead)?;
@@ -231,6 +241,8 @@ impl<'a> Watched<'a> {
         ensures again { IfErr result (λ why. MayPass why → seen_of self.new ≡ seen_of self.old) }
         ensures name { self.new.name ≡ self.old.name }
         ensures path { self.new.path ≡ self.old.path }
+        ensures verify { verify_of self.new ≡ verify_of self.old }
+        ensures compared { compared_of self.new ≡ compared_of self.old }
     {
         let published = server.file(self.name.as_bytes());
         let bytes = unpublished_bytes(alloc, published, file).map_err(WatchError::CantRead)?;
@@ -263,9 +275,12 @@ impl<'a> Watched<'a> {
         ensures err { OnErr result (server.new ≡ server.old) }
         ensures refused { IfErr result (IsRefusedBy server.old self.old.name.now) }
 
-        // Its name and its path stay.
+        // Its name, its path and `verify` stay, and so does the moment of the last comparison. After an error all of it does.
         ensures name { self.new.name ≡ self.old.name }
         ensures path { self.new.path ≡ self.old.path }
+        ensures verify { verify_of self.new ≡ verify_of self.old }
+        ensures compared { compared_of self.new ≡ compared_of self.old }
+        ensures kept { OnErr result (self.new ≡ self.old) }
     {
         look(rt, self.path)?;
         let (file, seen, size) = open(rt, self.path)?;
@@ -301,6 +316,9 @@ impl<'a> Watched<'a> {
         ensures again { IfErr result (λ why. MayPass why → seen_of self.new ≡ seen_of self.old) }
         ensures name { self.new.name ≡ self.old.name }
         ensures path { self.new.path ≡ self.old.path }
+        ensures verify { verify_of self.new ≡ verify_of self.old }
+        // It stays as it is, or this moment is that of the last comparison.
+        ensures compared { (self.new ≡ self.old) ⊎ (compared_of self.new ≡ now) }
     {
         let seen = look(rt, self.path)?;
         if is_unchanged(seen, self.seen) && !self.is_due(now) {
