@@ -1,12 +1,11 @@
 -- A text that is compared with what is given, piece by piece.
-use Rattle.std.proofs.Common.{◌≡◌, ◌≢◌, ◌++◌, ◌+◌, ◌-◌, ◌≤◌, ◌<◌, ◌∙◌, arith, inl, inr, Bool, Err, IfOk, IfSome, Ok, Result, [], ap, drop, false, length, List, None, ℕ, nat_eq, Option, Some, subst, sym, take, take-append-drop, true}
-use Rattle.std.proofs.lemmas.Bool.{cases_lt, false≢true}
+use Rattle.std.proofs.Common.{◌≡◌, ◌≢◌, ◌++◌, ◌+◌, ◌-◌, ◌≤◌, ◌∙◌, arith, inl, inr, IfSome, [], ap, drop, false, length, List, None, ℕ, nat_eq, Option, Some, subst, sym, take, take-append-drop, true}
+use Rattle.std.proofs.lemmas.Bool.{cases_lt}
 use Rattle.std.proofs.lemmas.List.{append_cancel_left, length-take, take-append-le, take_all}
 use Rattle.std.proofs.Math.Seq.{take-append-add}
 use Rattle.std.specs.Cmp.Lexicographic.{other_text, pointwise, same_text}
 use Rattle.std.specs.Io.KnownBytes.{Consumes}
 use Rattle.std.specs.Option.{option_map}
-use Rattle.std.specs.Prelude.{◌↔◌, IsSome, IsTrue}
 use Rattle.disk_files.specs.Given.{IsDifference}
 use Rattle.disk_files.specs.declared.reading.Difference.{Difference}
 use lib.Seq.{take-append_seam}

@@ -1,15 +1,17 @@
 -- An error that is handed on, and what is published of bytes that were read.
-use Rattle.std.proofs.Common.{◌≡◌, ◌≤◌, ◌+◌, ◌∙◌, ℕ, Bor, List, Option, None, Result, Ok, Err, Some, IfErr, IfOk, IsErrAnd, ap, arith, inl, length, subst, sym, take}
+use Rattle.std.proofs.Common.{◌≡◌, ◌<◌, ◌≤◌, ◌+◌, ◌∙◌, ℕ, Bor, List, Option, None, Result, Ok, Err, Some, IfErr, IfOk, IsErrAnd, ap, arith, inl, inr, length, subst, sym, take}
 use Rattle.std.specs.Prelude.{IsSomeAnd, MatchOption, MatchResult}
 use lib.ListN.{replicate}
 use Rattle.std.specs.Option.{option_copied, option_map}
 use Rattle.std.proofs.lemmas.List.{length-replicate, take_all}
 use Rattle.http_range.specs.Book.{Catalogue, Publication, publish, published}
 use Rattle.http_range.specs.Laws.{PublishReplaces}
-use Rattle.cog_server.specs.Server.{ServerState, refusal_of}
+use Rattle.cog_server.specs.Server.{IsRefusal, ServerState, refusal_of}
 use Rattle.cog_server.specs.declared.error.PublishError.{PublishError}
-use Rattle.disk_files.specs.Watching.{IsRefusedBy}
-use Rattle.disk_files.specs.declared.watched.WatchError.TheVariants.{Refused}
+use Rattle.disk_files.specs.Watching.{IsOfDisk, IsRefusedAs, IsRefusedBy, IsRefusedOf}
+use Rattle.http_range.specs.declared.publication.TheConstants.{FILE_LIMIT}
+use Rattle.disk_files.specs.declared.watched.WatchError.{WatchError}
+use Rattle.disk_files.specs.declared.watched.WatchError.TheVariants.{CantRead, NotAFile, Refused}
 use Rattle.disk_files.specs.Published.{IsFileOf}
 
 -- what holds of an error holds where it is handed on
@@ -47,6 +49,38 @@ pub refused_by_size : (s : ServerState) (name : List ℕ) (size : ℕ) (refusal 
     → ((t : ServerState) (file : List ℕ) → length file ≡ size → refusal_of t.count t.catalogue name file ≡ Some refusal)
     → IsRefusedBy s name (Refused refusal)
 refused_by_size s name size refusal by = (replicate size 0, inl (by s (replicate size 0) (length-replicate size 0)))
+
+-- an error of the disk is no refusal
+pub of_disk : {F : Type 0} (gives : F → Option (List ℕ)) (s : ServerState) (name : List ℕ) (why : WatchError) → IsOfDisk why → IsRefusedOf gives s name why
+of_disk gives s name (CantRead e) is = tt
+of_disk gives s name NotAFile is = tt
+of_disk gives s name (Refused e) is = absurd is
+
+-- a refusal of what a file gives, and one by its length, are such
+of_file : {F : Type 0} (gives : F → Option (List ℕ)) (s : ServerState) (name : List ℕ) (file : F) (why : WatchError)
+    → ((whole : List ℕ) → gives file ≡ Some whole → IsRefusedAs s name (take (FILE_LIMIT + 1) whole) why) → IsRefusedOf gives s name why
+of_file gives s name file (CantRead e) is = tt
+of_file gives s name file NotAFile is = tt
+of_file gives s name file (Refused e) is = inr (file, is)
+
+pub refused_of : {A F : Type 0} (gives : F → Option (List ℕ)) (s : ServerState) (name : List ℕ) (file : F) (r : Result A WatchError)
+    → ((whole : List ℕ) → gives file ≡ Some whole → IfErr r (IsRefusedAs s name (take (FILE_LIMIT + 1) whole))) → IfErr r (IsRefusedOf gives s name)
+refused_of gives s name file (Ok x) is = tt
+refused_of gives s name file (Err why) is = of_file gives s name file why is
+
+pub of_length : {F : Type 0} (gives : F → Option (List ℕ)) (s : ServerState) (name : List ℕ) (size : ℕ) (refusal : PublishError) → FILE_LIMIT < size
+    → ((t : ServerState) (file : List ℕ) → length file ≡ size → refusal_of t.count t.catalogue name file ≡ Some refusal)
+    → IsRefusedOf gives s name (Refused refusal)
+of_length gives s name size refusal large by =
+    let file : List ℕ = replicate size 0 in
+    inl (file, subst (λ n. FILE_LIMIT < n) (sym (length-replicate size 0)) large, by s file (length-replicate size 0))
+
+-- a refusal of the bytes that were read is one of what the file gives
+pub refused_as : (s : ServerState) (key name bytes given : List ℕ) (e : PublishError) → key ≡ name → bytes ≡ given
+    → IsRefusal (refusal_of s.count s.catalogue key bytes) e → IsRefusedAs s name given (Refused e)
+refused_as s key name bytes given e same is refused =
+    subst (λ n. IsRefusal (refusal_of s.count s.catalogue n given) e) same
+    (subst (λ b. IsRefusal (refusal_of s.count s.catalogue key b) e) is refused)
 
 -- what a match says of a value that is there
 pub at_some : {A : Type 0} (o : Option A) (x : A) (P : Type 0) (Q : A → Type 0) → o ≡ Some x → MatchOption o P Q → Q x

@@ -1,5 +1,6 @@
 -- Why a file of the disk isn't published, and what is remembered of it.
-use Rattle.std.specs.Prelude.{◌≡◌, ◌-◌, ◌<◌, ℕ, IfSome, IsSome, List, Option, ⊤}
+use Rattle.std.specs.Prelude.{◌≡◌, ◌⊎◌, ◌+◌, ◌-◌, ◌<◌, ℕ, IfSome, IsSome, List, Option, Some, length, take, ⊤}
+use Rattle.http_range.specs.declared.publication.TheConstants.{FILE_LIMIT}
 use Rattle.cog_server.specs.Server.{IsRefusal, ServerState, refusal_of}
 use Rattle.cog_server.specs.declared.error.PublishError.TheVariants.{Memory}
 use Rattle.disk_files.specs.declared.stamp.Stamp.{Stamp}
@@ -26,6 +27,25 @@ IsUnread now old new = IsSome (seen_of old) × IfSome (verify_of old) (λ millis
 abbrev pub IsRefusedBy : ServerState → List ℕ → WatchError → Type 0
 IsRefusedBy s name (Refused e) = (file : List ℕ) × IsRefusal (refusal_of s.count s.catalogue name file) e
 IsRefusedBy s name why = ⊤
+
+-- the server refuses such bytes by its rules, or for want of memory where these refuse none
+abbrev pub IsRefusedAs : ServerState → (name file : List ℕ) → WatchError → Type 0
+IsRefusedAs s name file (Refused e) = IsRefusal (refusal_of s.count s.catalogue name file) e
+IsRefusedAs s name file why = ⊤
+
+-- Where the server refuses it, it does so as it refuses a file that is too large. Or it refuses what a file gave that was opened, which
+-- is cut at one byte more than a file may have.
+abbrev pub IsRefusedOf : {F : Type 0} (gives : F → Option (List ℕ)) → ServerState → List ℕ → WatchError → Type 0
+IsRefusedOf {F} gives s name (Refused e) =
+    ((file : List ℕ) × (FILE_LIMIT < length file) × (refusal_of s.count s.catalogue name file ≡ Some e))
+    ⊎ ((file : F) × ((whole : List ℕ) → gives file ≡ Some whole → IsRefusedAs s name (take (FILE_LIMIT + 1) whole) (Refused e)))
+IsRefusedOf gives s name why = ⊤
+
+-- the disk is the reason: the file can't be read, or the path is no file's
+abbrev pub IsOfDisk : WatchError → Type 0
+IsOfDisk (CantRead e) = ⊤
+IsOfDisk NotAFile = ⊤
+IsOfDisk (Refused e) = ⊥
 
 -- the reason may pass, though the file stays as it is: it can't be read, the path is no file's, or memory is wanting
 abbrev pub MayPass : WatchError → Type 0

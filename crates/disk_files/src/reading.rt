@@ -28,7 +28,10 @@ pub fn enough_of<R: Read + Drop>(alloc: Global, reader: R) -> io::Result<Vec<u8>
 
 /// Returns the bytes of the file at a path, but at most `FILE_LIMIT + 1`. Fails where it can't be opened or read, or where no memory is
 /// left.
-pub fn read_file<R: Files + AllocGlobal>(rt: &R, path: &str) -> io::Result<Vec<u8>> {
+pub fn read_file<R: Files + AllocGlobal>(rt: &R, path: &str) -> io::Result<Vec<u8>>
+    ensures { IfOk result (λ bytes. (file : R.File)
+        × ((given : List ℕ) → R.File.remaining file ≡ Some given → bytes.items ≡ take (FILE_LIMIT + 1) given)) }
+{
     enough_of(rt.alloc(), File::open(rt, path)?)
 }
 

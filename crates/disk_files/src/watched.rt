@@ -1,5 +1,5 @@
 //! A file of the disk that a server publishes, and when to read it again.
-ghost use Rattle.std.specs.Prelude.{◌≡◌, ◌≤◌, ◌+◌, ◌-◌, ◌↔◌, ◌⊎◌, ℕ, List, IfErr, IfOk, IfSome, IsSome, IsSomeAnd, IsTrue, MatchOption, None, OnErr, OnOk, Some, length, take};
+ghost use Rattle.std.specs.Prelude.{◌≡◌, ◌<◌, ◌≤◌, ◌+◌, ◌-◌, ◌↔◌, ◌⊎◌, ℕ, List, IfErr, IfOk, IfSome, IsSome, IsSomeAnd, IsTrue, MatchOption, None, OnErr, OnOk, Some, length, take};
 ghost use Rattle.std.specs.Duration.{as_nanos};
 ghost use Rattle.std.specs.Fs.{file_type, metadata_len};
 ghost use Rattle.std.specs.Fs.{IsFile as IsPlainFile};
@@ -8,8 +8,8 @@ ghost use Rattle.http_range.specs.declared.publication.TheConstants.{FILE_LIMIT}
 ghost use Rattle.cog_server.specs.Server.{IsRefusal, ServerState, refusal_of};
 ghost use Rattle.disk_files.specs.Published.{HasOther, IsFileOf, IsOfFile, IsPublished};
 ghost use Rattle.disk_files.specs.Settled.{IsSettledSince};
-ghost use Rattle.disk_files.specs.Watching.{IsRefusedBy, IsUnread, MayPass, compared_of, seen_of, verify_of};
-ghost use Rattle.disk_files.specs.declared.watched.WatchError.TheVariants.{Refused};
+ghost use Rattle.disk_files.specs.Watching.{IsOfDisk, IsRefusedAs, IsRefusedBy, IsRefusedOf, IsUnread, MayPass, compared_of, seen_of, verify_of};
+ghost use Rattle.disk_files.specs.declared.watched.WatchError.TheVariants.{NotAFile, Refused};
 
 use crate::reading::{enough_of, other_bytes};
 use crate::stamp::{Stamp, is_unchanged, stamp_of};
@@ -56,7 +56,9 @@ fn remembered(metadata: &Metadata, now: Option<Duration>) -> Result<Option<Stamp
     ensures settled { IfOk result (λ seen. IfSome seen (λ stamp. IsSomeAnd now (λ n. IsSettledSince stamp.changed (as_nanos n)))) }
     ensures length { IfOk result (λ seen. IfSome seen (λ stamp. stamp.length ≡ metadata_len metadata.now)) }
     ensures file { OnOk result (IsPlainFile (file_type metadata.now)) }
+    ensures no_file { IfErr result (λ why. (why ≡ NotAFile) × ¬ IsPlainFile (file_type metadata.now)) }
     ensures refused { (s : ServerState) (name : List ℕ) → IfErr result (IsRefusedBy s name) }
+    ensures disk { IfErr result IsOfDisk }
 {
     if !metadata.is_file() {
         return Err(WatchError::NotAFile);
@@ -70,6 +72,7 @@ fn remembered(metadata: &Metadata, now: Option<Duration>) -> Result<Option<Stamp
 /// Looks at a path without opening it, since to open a pipe might wait for its writer. Returns the stamp to remember.
 fn look<R: Files + Clock>(rt: &R, path: &str) -> Result<Option<Stamp>, WatchError>
     ensures refused { (s : ServerState) (name : List ℕ) → IfErr result (IsRefusedBy s name) }
+    ensures disk { IfErr result IsOfDisk }
 {
     let now = rt.since_1970().ok();
     let metadata = fs::metadata(rt, path).map_err(WatchError::CantRead)?;
@@ -80,6 +83,7 @@ fn look<R: Files + Clock>(rt: &R, path: &str) -> Result<Option<Stamp>, WatchErro
 /// remember, and the length in bytes.
 fn open<R: Files + Clock>(rt: &R, path: &str) -> Result<(R::File, Option<Stamp>, u64), WatchError>
     ensures refused { (s : ServerState) (name : List ℕ) → IfErr result (IsRefusedBy s name) }
+    ensures disk { IfErr result IsOfDisk }
 {
     let now = rt.since_1970().ok();
     let file = File::open(rt, path).map_err(WatchError::CantRead)?;
@@ -91,6 +95,7 @@ fn open<R: Files + Clock>(rt: &R, path: &str) -> Result<(R::File, Option<Stamp>,
 /// Returns why a server refuses each file of `size` bytes under `name`, or `None` where such a file isn't too large. It reads no byte.
 fn refusal_by_length(name: &[u8], size: u64) -> Option<PublishError>
     ensures small { result ≡ None ↔ (size ≤ FILE_LIMIT) }
+    ensures large { IsSome result → FILE_LIMIT < size }
     ensures refused { (s : ServerState) (file : List ℕ) → length file ≡ size
         → IfSome result (λ refusal. refusal_of s.count s.catalogue name.now file ≡ Some refusal) }
     ensures lasting { IfSome result (λ refusal. ¬ MayPass (Refused refusal)) }
@@ -152,6 +157,9 @@ impl<'a> Watched<'a> {
         ensures name { result.name ≡ name.entry }
         ensures path { result.path ≡ path.entry }
         ensures verify { verify_of result ≡ None }
+        // Nothing is remembered of it, and it wasn't compared.
+        ensures unseen { seen_of result ≡ None }
+        ensures uncompared { compared_of result ≡ 0 }
     {
         Watched::verified(name, path, None)
     }
@@ -162,6 +170,9 @@ impl<'a> Watched<'a> {
         ensures name { result.name ≡ name.entry }
         ensures path { result.path ≡ path.entry }
         ensures verify { verify_of result ≡ verify }
+        // Nothing is remembered of it, and it wasn't compared.
+        ensures unseen { seen_of result ≡ None }
+        ensures uncompared { compared_of result ≡ 0 }
     {
         Watched {
             name,
@@ -195,9 +206,14 @@ impl<'a> Watched<'a> {
         ensures ok { IfOk result (IsPublished self.old.name.now server.old server.new) }
         ensures err { OnErr result (server.new ≡ server.old) }
         ensures refused { IfErr result (IsRefusedBy server.old self.old.name.now) }
+        ensures refused_as { (whole : List ℕ) → F.remaining file ≡ Some whole
+            → IfErr result (IsRefusedAs server.old self.old.name.now (take (FILE_LIMIT + 1) whole)) }
         ensures seen { OnOk result (seen_of self.new ≡ seen) }
         ensures name { self.new.name ≡ self.old.name }
         ensures path { self.new.path ≡ self.old.path }
+        ensures verify { verify_of self.new ≡ verify_of self.old }
+        ensures compared { compared_of self.new ≡ compared_of self.old }
+        ensures kept { OnErr result (self.new ≡ self.old) }
     {
         law_publications_replace();
         let bytes = enough_of(alloc, file).map_err(WatchError::CantRead)?;
@@ -227,10 +243,14 @@ impl<'a> Watched<'a> {
         ensures first { published self.old.name.now server.old.catalogue ≡ None → IfOk result IsSome }
         ensures err { OnErr result (server.new ≡ server.old) }
         ensures refused { IfErr result (IsRefusedBy server.old self.old.name.now) }
+        ensures refused_as { (whole : List ℕ) → F.remaining file ≡ Some whole
+            → IfErr result (IsRefusedAs server.old self.old.name.now (take (FILE_LIMIT + 1) whole)) }
         ensures seen { OnOk result (seen_of self.new ≡ seen) }
         ensures again { IfErr result (λ why. MayPass why → seen_of self.new ≡ seen_of self.old) }
         ensures name { self.new.name ≡ self.old.name }
         ensures path { self.new.path ≡ self.old.path }
+        ensures verify { verify_of self.new ≡ verify_of self.old }
+        ensures compared { compared_of self.new ≡ compared_of self.old }
     {
         let published = server.file(self.name.as_bytes());
         let bytes = unpublished_bytes(alloc, published, file).map_err(WatchError::CantRead)?;
@@ -262,10 +282,15 @@ impl<'a> Watched<'a> {
         ensures given { OnOk result (IsOfFile R.File.remaining self.old.name.now server.new) }
         ensures err { OnErr result (server.new ≡ server.old) }
         ensures refused { IfErr result (IsRefusedBy server.old self.old.name.now) }
+        // The refusal is that of a file that is too large, or that of what an open file gave.
+        ensures refused_of { IfErr result (IsRefusedOf R.File.remaining server.old self.old.name.now) }
 
-        // Its name and its path stay.
+        // Its name, its path and `verify` stay, and so does the moment of the last comparison. After an error all of it does.
         ensures name { self.new.name ≡ self.old.name }
         ensures path { self.new.path ≡ self.old.path }
+        ensures verify { verify_of self.new ≡ verify_of self.old }
+        ensures compared { compared_of self.new ≡ compared_of self.old }
+        ensures kept { OnErr result (self.new ≡ self.old) }
     {
         look(rt, self.path)?;
         let (file, seen, size) = open(rt, self.path)?;
@@ -289,6 +314,8 @@ impl<'a> Watched<'a> {
         ensures same { IfOk result (λ tag. tag ≡ None → server.new ≡ server.old) }
         ensures err { OnErr result (server.new ≡ server.old) }
         ensures refused { IfErr result (IsRefusedBy server.old self.old.name.now) }
+        // The refusal is that of a file that is too large, or that of what an open file gave.
+        ensures refused_of { IfErr result (IsRefusedOf R.File.remaining server.old self.old.name.now) }
 
         // Either the publication is what an open file gave, or no file was read and `None` is returned. A file is read where nothing is
         // remembered of it, and where a comparison is due.
@@ -301,6 +328,9 @@ impl<'a> Watched<'a> {
         ensures again { IfErr result (λ why. MayPass why → seen_of self.new ≡ seen_of self.old) }
         ensures name { self.new.name ≡ self.old.name }
         ensures path { self.new.path ≡ self.old.path }
+        ensures verify { verify_of self.new ≡ verify_of self.old }
+        // It stays as it is, or this moment is that of the last comparison.
+        ensures compared { (self.new ≡ self.old) ⊎ (compared_of self.new ≡ now) }
     {
         let seen = look(rt, self.path)?;
         if is_unchanged(seen, self.seen) && !self.is_due(now) {

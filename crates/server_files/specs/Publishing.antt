@@ -1,32 +1,49 @@
 -- What a server has after files of the disk were published.
-use Rattle.std.specs.Prelude.{◌≡◌, ◌≢◌, ◌⊎◌, ℕ, List, [], ◌∷◌, map, All, Contains, IsSome}
+use Rattle.std.specs.Prelude.{◌≡◌, ◌≢◌, ◌⊎◌, ℕ, List, [], ◌∷◌, map, All, Any, Bool, Contains, IsSome, Option, false}
 use Rattle.http_range.specs.Book.{published}
 use Rattle.cog_server.specs.Server.{ServerState}
 use Rattle.disk_files.specs.declared.watched.Watched.{Watched}
-use Rattle.disk_files.specs.Published.{HasOther, IsPublished}
+use Rattle.disk_files.specs.Published.{HasOther, IsOfFile, IsPublished}
+use Rattle.disk_files.specs.Watching.{verify_of}
+use Rattle.server_files.specs.declared.error.ServeFilesError.{ServeFilesError}
+use Rattle.server_files.specs.declared.error.ServeFilesError.TheVariants.{CantWrite, NotPublished}
 
 -- the names of the files
 abbrev pub names : List Watched → List (List ℕ)
 names files = map (λ f. f.name.now) files
 
+-- what the command line says of each file: its name, its path, and when its bytes are compared
+abbrev pub settings : List Watched → List (List ℕ × List ℕ × Option ℕ)
+settings files = map (λ f. (f.name.now, f.path.now, verify_of f)) files
+
 -- the server has a file under this name
 abbrev pub IsServed : ServerState → List ℕ → Type 0
 IsServed s name = IsSome (published name s.catalogue)
 
--- Some bytes were published under each of the names, in their order, each once and with the next tag of the epoch, and nothing else changed.
-abbrev pub ArePublished : List (List ℕ) → ServerState → ServerState → Type 0
-ArePublished [] s t = t ≡ s
-ArePublished (name ∷ names) s t = (mid : ServerState) × ((tag : List ℕ) × IsPublished name s mid tag) × ArePublished names mid t
+-- What a file gave that was opened was published under the name with the next tag of the epoch, and nothing else changed. `gives` says
+-- which bytes a file gives, where they are known.
+abbrev pub IsPublishedOf : {F : Type 0} (gives : F → Option (List ℕ)) → List ℕ → ServerState → ServerState → Type 0
+IsPublishedOf gives name s t = ((tag : List ℕ) × IsPublished name s t tag) × IsOfFile gives name t
 
--- Nothing changed, or other bytes than before were published under the name with the next tag of the epoch.
-abbrev pub MayBePublished : List ℕ → ServerState → ServerState → Type 0
-MayBePublished name s t = (t ≡ s) ⊎ ((tag : List ℕ) × IsPublished name s t tag × HasOther name s t)
+-- So it was under each of the names, in their order, each once, and nothing else changed.
+abbrev pub ArePublished : {F : Type 0} (gives : F → Option (List ℕ)) → List (List ℕ) → ServerState → ServerState → Type 0
+ArePublished gives [] s t = t ≡ s
+ArePublished gives (name ∷ names) s t = (mid : ServerState) × IsPublishedOf gives name s mid × ArePublished gives names mid t
+
+-- Nothing changed, or what an open file gave was published under the name, and it is other bytes than before.
+abbrev pub MayBePublished : {F : Type 0} (gives : F → Option (List ℕ)) → List ℕ → ServerState → ServerState → Type 0
+MayBePublished gives name s t = (t ≡ s) ⊎ (IsPublishedOf gives name s t × HasOther name s t)
 
 -- So it is with each of the names, in their order, and nothing else changed; of several that are the same with the last alone.
-abbrev pub ArePublishedAnew : List (List ℕ) → ServerState → ServerState → Type 0
-ArePublishedAnew [] s t = t ≡ s
-ArePublishedAnew (name ∷ names) s t =
-    (mid : ServerState) × MayBePublished name s mid × (Contains names name → mid ≡ s) × ArePublishedAnew names mid t
+abbrev pub ArePublishedAnew : {F : Type 0} (gives : F → Option (List ℕ)) → List (List ℕ) → ServerState → ServerState → Type 0
+ArePublishedAnew gives [] s t = t ≡ s
+ArePublishedAnew gives (name ∷ names) s t =
+    (mid : ServerState) × MayBePublished gives name s mid × (Contains names name → mid ≡ s) × ArePublishedAnew gives names mid t
+
+-- So it was as often as the files were looked at, once after the other.
+pub data ArePublishedAgain {F : Type 0} (gives : F → Option (List ℕ)) (names : List (List ℕ)) (s : ServerState) : ServerState → Type 0 where
+  never : ArePublishedAgain gives names s s
+  again : (t u : ServerState) → ArePublishedAgain gives names s t → ArePublishedAnew gives names t u → ArePublishedAgain gives names s u
 
 -- under every name but this one the server has what it had
 abbrev pub KeepsOthers : List ℕ → ServerState → ServerState → Type 0
@@ -36,3 +53,13 @@ KeepsOthers name old new = (other : List ℕ) → other ≢ name → published o
 abbrev pub KeepsOthersThan : List (List ℕ) → ServerState → ServerState → Type 0
 KeepsOthersThan names old new =
     (other : List ℕ) → All (λ name. other ≢ name) names → published other new.catalogue ≡ published other old.catalogue
+
+-- The error is of this file, with its name and its path. Or its line wasn't written, and no log is kept.
+abbrev pub IsOfOne : (is_kept : Bool) → Watched → ServeFilesError → Type 0
+IsOfOne is_kept f (NotPublished file) = (file.name.now ≡ f.name.now) × (file.path.now ≡ f.path.now)
+IsOfOne is_kept f (CantWrite error) = is_kept ≡ false
+IsOfOne is_kept f why = ⊥
+
+-- the error is of one of these files
+abbrev pub IsOfFiles : (is_kept : Bool) → List Watched → ServeFilesError → Type 0
+IsOfFiles is_kept files why = Any (λ f. IsOfOne is_kept f why) files

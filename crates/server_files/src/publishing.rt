@@ -1,7 +1,7 @@
 //! The files that are published, and those that are published anew.
-ghost use Rattle.std.specs.Prelude.{◌≡◌, ◌↔◌, ℕ, List, All, Contains, IsTrue, OnOk};
-ghost use Rattle.disk_files.specs.Published.{IsPublished};
-ghost use Rattle.server_files.specs.Publishing.{ArePublished, ArePublishedAnew, IsServed, KeepsOthers, KeepsOthersThan, MayBePublished, names};
+ghost use Rattle.std.specs.Prelude.{◌≡◌, ◌↔◌, All, Contains, IfErr, IsTrue, OnOk};
+ghost use Rattle.disk_files.specs.Watching.{verify_of};
+ghost use Rattle.server_files.specs.Publishing.{ArePublished, ArePublishedAnew, IsOfFiles, IsOfOne, IsPublishedOf, IsServed, KeepsOthers, KeepsOthersThan, MayBePublished, names, settings};
 
 use crate::access_log::AccessLog;
 use crate::clock::moment;
@@ -25,9 +25,12 @@ fn publish_one<'a, R: Files + Clock + Print + Eprint + AllocGlobal>(
     file: &mut Watched<'a>,
 ) -> Result<(), ServeFilesError<'a>>
     ensures served { OnOk result (IsServed server.new file.old.name.now) }
-    ensures next { OnOk result ((tag : List ℕ) × IsPublished file.old.name.now server.old server.new tag) }
+    ensures next { OnOk result (IsPublishedOf R.File.remaining file.old.name.now server.old server.new) }
     ensures others { KeepsOthers file.old.name.now server.old server.new }
+    ensures err { IfErr result (IsOfOne log.now.is_kept file.old) }
     ensures name { file.new.name ≡ file.old.name }
+    ensures path { file.new.path ≡ file.old.path }
+    ensures verify { verify_of file.new ≡ verify_of file.old }
 {
     law_publications_replace();
     match file.publish(log.rt, server) {
@@ -43,9 +46,11 @@ pub fn publish_all<'a, R: Files + Clock + Print + Eprint + AllocGlobal>(
     files: &mut [Watched<'a>],
 ) -> Result<(), ServeFilesError<'a>>
     ensures served { OnOk result (All (IsServed server.new) (names files.old)) }
-    ensures each { OnOk result (ArePublished (names files.old) server.old server.new) }
+    ensures each { OnOk result (ArePublished R.File.remaining (names files.old) server.old server.new) }
     ensures others { KeepsOthersThan (names files.old) server.old server.new }
+    ensures err { IfErr result (IsOfFiles log.now.is_kept files.old) }
     ensures names { names files.new ≡ names files.old }
+    ensures settings { settings files.new ≡ settings files.old }
 {
     for k in 0..files.len() {
         publish_one(log, server, &mut files[k])?;
@@ -71,9 +76,11 @@ fn look_at<R: Files + Clock + Print + Eprint + AllocGlobal>(
     server: &mut Server,
     file: &mut Watched<'_>,
 )
-    ensures anew { MayBePublished file.old.name.now server.old server.new }
+    ensures anew { MayBePublished R.File.remaining file.old.name.now server.old server.new }
     ensures others { KeepsOthers file.old.name.now server.old server.new }
     ensures name { file.new.name ≡ file.old.name }
+    ensures path { file.new.path ≡ file.old.path }
+    ensures verify { verify_of file.new ≡ verify_of file.old }
 {
     law_publications_replace();
     match file.publish_changed(log.rt, server, moment(log.rt)) {
@@ -91,9 +98,10 @@ pub fn look_again<R: Files + Clock + Print + Eprint + AllocGlobal>(
     server: &mut Server,
     files: &mut [Watched<'_>],
 )
-    ensures anew { ArePublishedAnew (names files.old) server.old server.new }
+    ensures anew { ArePublishedAnew R.File.remaining (names files.old) server.old server.new }
     ensures others { KeepsOthersThan (names files.old) server.old server.new }
     ensures names { names files.new ≡ names files.old }
+    ensures settings { settings files.new ≡ settings files.old }
 {
     for k in 0..files.len() {
         if !is_name_of_one(files[k].name, &files[k + 1..]) {

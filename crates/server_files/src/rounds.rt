@@ -1,7 +1,8 @@
 //! Serving: round by round, as connections come and are ready.
-ghost use Rattle.std.specs.Prelude.{◌≡◌, ◌≤◌, ℕ, [], OnOk, max};
+ghost use Rattle.std.specs.Prelude.{◌≡◌, ◌≤◌, ℕ, [], IfErr, OnOk, max};
 ghost use Rattle.cog_server.specs.Service.{added_of};
-ghost use Rattle.server_files.specs.Publishing.{ArePublishedAnew, KeepsOthersThan, names};
+ghost use Rattle.server_files.specs.Publishing.{ArePublishedAgain, ArePublishedAnew, KeepsOthersThan, names, settings};
+ghost use Rattle.server_files.specs.Refused.{IsOfSockets};
 ghost use Rattle.server_sockets.specs.Going.{AllWentOnOrStart};
 ghost use Rattle.server_sockets.specs.Slots.{accepted_of, limits_of, slots_of};
 
@@ -76,10 +77,13 @@ fn round<R: Files + Clock + Print + Eprint + AllocGlobal>(
         (slots_of serving.old) (slots_of serving.new) }
     ensures limits { limits_of serving.new ≡ limits_of serving.old }
     // Files are published anew in their order, each with other bytes than before, and none where no connection was accepted.
-    ensures anew { ArePublishedAnew (names files.old) server.old server.new }
+    ensures anew { ArePublishedAnew R.File.remaining (names files.old) server.old server.new }
     ensures idle { accepted_of serving.new ≡ accepted_of serving.old → server.new ≡ server.old }
     ensures others { KeepsOthersThan (names files.old) server.old server.new }
     ensures names { names files.new ≡ names files.old }
+    ensures settings { settings files.new ≡ settings files.old }
+    // An error is of sockets.
+    ensures sockets { IfErr result IsOfSockets }
 {
     let now = moment(log.rt);
     let service = Service::new(server, additions);
@@ -102,8 +106,13 @@ where
     R: Files + Clock + Print + Eprint + AllocGlobal,
     ensures over { OnOk result (((limits_of serving.new).connections ≤ accepted_of serving.new) × (slots_of serving.new ≡ [])) }
     ensures limits { limits_of serving.new ≡ limits_of serving.old }
+    // What is published meanwhile is published as files are looked at, once after the other.
+    ensures anew { ArePublishedAgain R.File.remaining (names files.old) server.old server.new }
     ensures others { KeepsOthersThan (names files.old) server.old server.new }
     ensures names { names files.new ≡ names files.old }
+    ensures settings { settings files.new ≡ settings files.old }
+    // An error is of sockets.
+    ensures sockets { IfErr result IsOfSockets }
 {
     let mut printed = 0;
     for _ in 0..u64::MAX {
@@ -131,8 +140,13 @@ pub fn serve_connections<R>(
 ) -> Result<(), ServeFilesError<'static>>
 where
     R: Files + Clock + Print + Eprint + AllocGlobal + Net,
+    // What is published meanwhile is published as files are looked at, once after the other.
+    ensures anew { ArePublishedAgain R.File.remaining (names files.old) server.old server.new }
     ensures others { KeepsOthersThan (names files.old) server.old server.new }
     ensures names { names files.new ≡ names files.old }
+    ensures settings { settings files.new ≡ settings files.old }
+    // An error is of sockets.
+    ensures sockets { IfErr result IsOfSockets }
 {
     let mut serving = match Serving::new(log.rt, listener, limits) {
         Ok(serving) => serving,

@@ -13,7 +13,7 @@ use Rattle.server_sockets.specs.declared.serving.Limits.{Limits}
 use Rattle.server_sockets.specs.declared.serving.Serving.{Serving}
 use Rattle.server_sockets.specs.Closings.{BeginsWith, ChangesOnly, ClosesOnly, DrainsOnly, HasDrained, IsOverdueAt, MayClose, TriesAlone}
 use Rattle.server_sockets.specs.Going.{AllWentOn}
-use Rattle.server_sockets.specs.Slots.{NobodyComes, drains_of, limits_of, ready_of, slots_of}
+use Rattle.server_sockets.specs.Slots.{KeepsBacklog, KeepsFreeing, NobodyComes, drains_of, limits_of, ready_of, slots_of}
 use Rattle.server_sockets.proofs.GoingLemmas.{all_on}
 
 -- ---- connections
@@ -38,7 +38,7 @@ changes_for P Q a b f changes k =
     ]
 
 -- one changes, and it is one of these
-changes_one : (P : ℕ → Type 0) (n : ℕ) (a b : Table) → OthersStay n a b → P n → ChangesOnly P a b
+pub changes_one : (P : ℕ → Type 0) (n : ℕ) (a b : Table) → OthersStay n a b → P n → ChangesOnly P a b
 changes_one P n a b others is k =
     elim (cases_eq k n) [
       | inl same ↦ inl (subst P (sym same) is)
@@ -94,7 +94,7 @@ drained_on now i first then a b c is before after =
 -- ---- the queue
 
 -- what it began with at first, it begins with in the end
-begins_on : (a b c : List ℕ) → BeginsWith b a → BeginsWith c b → BeginsWith c a
+pub begins_on : (a b c : List ℕ) → BeginsWith b a → BeginsWith c b → BeginsWith c a
 begins_on a b c first then =
     (first.0 ++ then.0, then.1 ∙ ap (λ l. l ++ then.0) first.1 ∙ append_assoc a first.0 then.0)
 
@@ -165,6 +165,8 @@ overdue_on P a b c first then k =
 -- what is so once this many of those that were queued have had their turns
 pub record Turned (service : ServiceState) (now count : ℕ) (old new : Serving) : Type 0 where
   pub nobody : NobodyComes old new
+  pub backlog : KeepsBacklog old new
+  pub freeing : KeepsFreeing old new
   pub went : AllWentOn service now (slots_of old) (slots_of new)
   pub queue : BeginsWith (ready_of new) (drop count (ready_of old))
   pub queued : ChangesOnly (Contains (ready_of old)) (slots_of old) (slots_of new)
@@ -172,13 +174,15 @@ pub record Turned (service : ServiceState) (now count : ℕ) (old new : Serving)
 
 -- and after one more turn
 pub turned_more : (service : ServiceState) (now i n : ℕ) (a b c : Serving) (rest : List ℕ) → i < length (ready_of a)
-    → Turned service now i a b → ready_of b ≡ n ∷ rest → NobodyComes a c → AllWentOn service now (slots_of b) (slots_of c)
+    → Turned service now i a b → ready_of b ≡ n ∷ rest → NobodyComes a c → KeepsBacklog a c → KeepsFreeing a c → AllWentOn service now (slots_of b) (slots_of c)
     → OthersStay n (slots_of b) (slots_of c) → BeginsWith (ready_of c) rest → DrainsOnly (λ k. k ≡ n) (drains_of b) (drains_of c)
     → Turned service now (i + 1) a c
-turned_more service now i n a b c rest within is taken nobody went others queue drains =
+turned_more service now i n a b c rest within is taken nobody backlog freeing went others queue drains =
     let there = taken_was_queued i n (ready_of a) (ready_of b) rest within is.queue taken in
     record {
       nobody = nobody;
+      backlog = backlog;
+      freeing = freeing;
       went = all_on service now (slots_of a) (slots_of b) (slots_of c) is.went went;
       queue = begins_on (drop (i + 1) (ready_of a)) rest (ready_of c) (left_in_queue i n (ready_of a) (ready_of b) rest within is.queue taken) queue;
       queued = changes_on (Contains (ready_of a)) (slots_of a) (slots_of b) (slots_of c) is.queued

@@ -1,5 +1,6 @@
 -- What nobody's coming is, and who keeps a slot.
-use Rattle.std.proofs.Common.{◌≡◌, ◌∙◌, ◌+◌, ◌-◌, ◌<◌, ◌≤◌, ◌⊎◌, ℕ, arith, false, length, Option, None, Some, refl, sym, le_trans, subst, inl, inr}
+use Rattle.std.proofs.Common.{◌≡◌, ◌∙◌, ◌<◌, ◌≤◌, ◌⊎◌, ℕ, false, length, Option, None, Some, refl, sym, le_trans, subst, inl, inr}
+use Rattle.std.proofs.lemmas.Bool.{cases_lt}
 use Rattle.cog_server.specs.Additions.{ServiceState}
 use Rattle.server_connections.specs.declared.timed.Timed.{Timed}
 use Rattle.server_sockets.specs.declared.serving.Serving.{Serving}
@@ -10,7 +11,7 @@ use Rattle.server_sockets.proofs.GoingLemmas.{all_on, all_still}
 use Rattle.server_sockets.specs.Turns.{HasStartedAt, IsTriedAt}
 use Rattle.std.specs.Prelude.{IfSome}
 use Rattle.server_sockets.specs.declared.serving.Limits.{Limits}
-use Rattle.server_sockets.specs.Slots.{AllStart, KeepsAll, KeepsBusy, NobodyComes, NoneChanges, StayOrStart, accepted_of, limits_of, slots_of, slot_count}
+use Rattle.server_sockets.specs.Slots.{AllStart, KeepsAll, KeepsBacklog, KeepsBusy, KeepsFreeing, KeepsTurns, NobodyComes, NoneChanges, StayOrStart, limits_of, slots_of, slot_count}
 
 -- where nobody comes at first, nor then, nobody does
 pub nobody_yet : (a b c : Serving) → NobodyComes a b → NobodyComes b c → NobodyComes a c
@@ -68,16 +69,39 @@ start_on now a b c first then k p there =
       ]
     ]
 
--- who keeps its slot as long as there is room for each newcomer, and more
-pub spared_on : (a b c : Serving) → slot_count b ≡ slot_count a → accepted_of a ≤ accepted_of b → accepted_of b ≤ accepted_of c
-    → length (slots_of b) ≤ length (slots_of a) + (accepted_of b - accepted_of a)
-    → (a.out_of_descriptors ≡ false → b.out_of_descriptors ≡ false)
-    → (a.out_of_descriptors ≡ false → length (slots_of a) + (accepted_of b - accepted_of a) < slot_count a → KeepsAll a b)
+-- Who keeps its slot while a slot is free: once none is, nobody is known to wait, and no more are accepted.
+pub spared_on : (a b c : Serving) → (a.out_of_descriptors ≡ false → b.out_of_descriptors ≡ false)
+    → (a.out_of_descriptors ≡ false → length (slots_of a) < slot_count a → KeepsAll a b)
+    → (a.out_of_descriptors ≡ false → length (slots_of a) < slot_count a → slot_count b ≤ length (slots_of b) → b.accept_pending ≡ false)
     → (b.out_of_descriptors ≡ false → length (slots_of b) < slot_count b → KeepsAll b c)
-    → a.out_of_descriptors ≡ false → length (slots_of a) + (accepted_of c - accepted_of a) < slot_count a → KeepsAll a c
-spared_on a b c room more again slots fed first then is-fed free k p there =
-    then (fed is-fed) (omega (arith, room, more, again, slots, free)) k p
-    (first is-fed (omega (arith, more, again, free)) k p there)
+    → (b.accept_pending ≡ false → c ≡ b)
+    → a.out_of_descriptors ≡ false → length (slots_of a) < slot_count a → KeepsAll a c
+spared_on a b c fed first asked then quiet is-fed free =
+    elim (cases_lt (length (slots_of b)) (slot_count b)) [
+      | inl still ↦ (λ k p there. then (fed is-fed) still k p (first is-fed free k p there))
+      | inr none ↦ subst (KeepsAll a) (sym (quiet (asked is-fed free none))) (first is-fed free)
+    ]
+
+-- what is known of the listen backlog, of replaced files, and of turns stays at first, and then
+pub backlog_on : (a b c : Serving) → KeepsBacklog a b → KeepsBacklog b c → KeepsBacklog a c
+backlog_on a b c first then = record {
+  waits = then.waits ∙ first.waits;
+  starved = then.starved ∙ first.starved;
+  barred = then.barred ∙ first.barred;
+}
+
+pub freeing_on : (a b c : Serving) → KeepsFreeing a b → KeepsFreeing b c → KeepsFreeing a c
+freeing_on a b c first then = record {
+  frees = then.frees ∙ first.frees;
+  publications = then.publications ∙ first.publications;
+}
+
+pub turns_on : (a b c : Serving) → KeepsTurns a b → KeepsTurns b c → KeepsTurns a c
+turns_on a b c first then = record {
+  ready = then.ready ∙ first.ready;
+  drains = then.drains ∙ first.drains;
+  freeing = freeing_on a b c first.freeing then.freeing;
+}
 
 tried_as : (now k : ℕ) (a b : Serving) → IsTriedAt now k (slots_of a) → NoneChanges a b → (o : Option Timed) → timed_at k (slots_of b) ≡ o
     → IsTriedAt now k (slots_of b)
@@ -91,10 +115,10 @@ pub tried_still : (now k : ℕ) (a b : Serving) → IsTriedAt now k (slots_of a)
 tried_still now k a b is same = tried_as now k a b is same (timed_at k (slots_of b)) refl
 
 -- what becomes of the connections where others are accepted, where the next one is, and where each has its turn
-pub ruleset accepting = (busy_on, start_on, spared_on)
+pub ruleset accepting = (busy_on, start_on, spared_on, turns_on)
 
-pub ruleset accepting_one = (busy_on, start_more, start_fewer)
+pub ruleset accepting_one = (busy_on, start_more, start_fewer, turns_on)
 
-pub ruleset taking_turns = (nobody_yet, all_on, went_still)
+pub ruleset taking_turns = (nobody_yet, backlog_on, freeing_on, all_on, went_still)
 
-pub ruleset trying = (nobody_yet, all_still, went_still, tried_still)
+pub ruleset trying = (nobody_yet, backlog_on, freeing_on, all_still, went_still, tried_still)

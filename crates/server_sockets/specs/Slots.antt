@@ -1,5 +1,5 @@
 -- What others know of a server's sockets.
-use Rattle.std.specs.Prelude.{◌≡◌, ◌≢◌, ◌<◌, ◌⊎◌, ◌+◌, ◌-◌, ◌*◌, ◌^◌, ◌≤◌, ℕ, [], List, length, Contains, false, true, min, slice_get, Option, None, Some, IfSome, IsSome, IsSomeAnd}
+use Rattle.std.specs.Prelude.{◌≡◌, ◌≢◌, ◌<◌, ◌⊎◌, ◌↔◌, ◌+◌, ◌-◌, ◌*◌, ◌^◌, ◌≤◌, ℕ, [], List, length, Contains, false, true, min, slice_get, Option, None, Some, IfSome, IsSome, IsSomeAnd}
 use Rattle.std.specs.declared.time.Duration.{Duration}
 use Rattle.std.specs.Duration.{as_nanos}
 use Rattle.mio.specs.declared.event.event.Event.{Event}
@@ -54,6 +54,10 @@ next_of s = s.open_connections.connections.next
 -- last looked for
 abbrev pub frees_of : Serving → Option ℕ
 frees_of s = s.frees_at
+
+-- how many publications there were then
+abbrev pub publications_of : Serving → ℕ
+publications_of s = s.publications
 
 -- one kept such bytes then, or there were other publications since; count is how many there are
 abbrev pub MayKeepOld : ℕ → Serving → Type 0
@@ -131,11 +135,31 @@ abbrev pub StayOrStart : ℕ → Serving → Serving → Type 0
 StayOrStart now old new =
     (k : ℕ) (p : Timed) → timed_at k (slots_of new) ≡ Some p → (timed_at k (slots_of old) ≡ Some p) ⊎ HasStartedAt k now (slots_of new)
 
--- What the system reported is noted: each connection is queued for its turn, or gone, and of the listener it is remembered.
+-- of connections in the listen backlog the same is known as before: whether one may wait, lacks room, or is barred
+pub record KeepsBacklog (old new : Serving) : Type 0 where
+  pub waits : new.accept_pending ≡ old.accept_pending
+  pub starved : new.out_of_descriptors ≡ old.out_of_descriptors
+  pub barred : new.is_barred ≡ old.is_barred
+
+-- so it is of connections that keep bytes of a replaced file: when one is looked at, and which publications are known
+pub record KeepsFreeing (old new : Serving) : Type 0 where
+  pub frees : frees_of new ≡ frees_of old
+  pub publications : publications_of new ≡ publications_of old
+
+-- what is due in turns stays: who is queued, who drains until when, and what is known of replaced files
+pub record KeepsTurns (old new : Serving) : Type 0 where
+  pub ready : ready_of new ≡ ready_of old
+  pub drains : drains_of new ≡ drains_of old
+  pub freeing : KeepsFreeing old new
+
+-- What the system reported is noted: each connection is queued for its turn, or gone. That one may wait in the listen backlog is
+-- remembered, also from before.
 pub record IsNoted (old new : Serving) : Type 0 where
-  pub heard : Contains (sockets_of (events_of new)) LISTENER.0 → new.accept_pending ≡ true
+  pub heard : (new.accept_pending ≡ true) ↔ ((old.accept_pending ≡ true) ⊎ Contains (sockets_of (events_of new)) LISTENER.0)
   pub queued : (k : ℕ) → Contains (sockets_of (events_of new)) k → k ≢ LISTENER.0
       → IsQueued k new.ready.items old.open_connections new.open_connections
+  pub starved : new.out_of_descriptors ≡ old.out_of_descriptors
+  pub barred : new.is_barred ≡ old.is_barred
 
 -- nobody is accepted, nobody gets a slot, there are as many slots, and none that ended is forgotten
 pub record NobodyComes (old new : Serving) : Type 0 where

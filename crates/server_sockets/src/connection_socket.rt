@@ -1,5 +1,5 @@
 //! Bytes between a connection and its socket.
-ghost use Rattle.std.specs.Prelude.{◌≡◌, ◌++◌, ◌≤◌, IfErr, IfOk, IfSome, OnErr, length, take};
+ghost use Rattle.std.specs.Prelude.{◌≡◌, ◌++◌, ◌<◌, ◌≤◌, IfErr, IfOk, IfSome, OnErr, length, take};
 ghost use Rattle.std.specs.Io.{WritesAtMost};
 ghost use Rattle.std.specs.Io.KnownBytes.{WriteAppends};
 ghost use Rattle.std.specs.Io.Slices.{io_slices_bytes};
@@ -128,12 +128,13 @@ fn write_to<W: WriteSlices>(
 }
 
 /// Takes the bytes that have come on a connection, and returns how many were taken. They stand at the front of `buffer`. Takes at most as
-/// many as the connection and `buffer` have room for.
+/// many as the connection and `buffer` have room for. A buffer of no room would make each read look like the end of the input.
 pub fn read_some(
     connections: &mut Connections,
     socket: &ConnectionSocket,
     buffer: &mut [u8],
 ) -> io::Result<usize>
+    requires { 0 < length buffer.old }
     ensures within { IfOk result (λ n. n ≤ length buffer.new) }
     ensures room { IfOk result (λ n. IfSome (timed_at socket.now.number connections.old.table.entries)
         (λ p. n ≤ room_of p.connection)) }

@@ -4,6 +4,7 @@ ghost use Rattle.mio.specs.Events.{items};
 ghost use Rattle.server_connections.specs.Table.{timed_at};
 ghost use Rattle.server_connections.specs.declared.timed.Timed.{Timed};
 ghost use Rattle.server_sockets.specs.declared.events.TheConstants.{LISTENER};
+ghost use Rattle.server_sockets.specs.Closings.{BeginsWith};
 ghost use Rattle.server_sockets.specs.Draining.{IsReadyAt};
 ghost use Rattle.server_sockets.specs.Waits.{IsQueued, sockets_of};
 
@@ -26,6 +27,7 @@ fn queue(number: u64, open_connections: &mut OpenConnections, ready: &mut VecDeq
         → timed_at k open_connections.old.connections.table.entries ≡ Some p }
     ensures ended { open_connections.old.ended ≤ open_connections.new.ended }
     ensures cap { open_connections.new.connections.table.cap ≡ open_connections.old.connections.table.cap }
+    ensures begins { BeginsWith ready.new.items ready.old.items }
 {
     if !open_connections.note_ready(number) {
         return;
@@ -51,6 +53,7 @@ pub fn note(
         → timed_at k open_connections.old.connections.table.entries ≡ Some p }
     ensures ended { open_connections.old.ended ≤ open_connections.new.ended }
     ensures cap { open_connections.new.connections.table.cap ≡ open_connections.old.connections.table.cap }
+    ensures begins { BeginsWith ready.new.items ready.old.items }
 {
     let mut accept_pending = false;
     for event in events {

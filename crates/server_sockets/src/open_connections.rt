@@ -313,6 +313,7 @@ impl OpenConnections {
         now: u64,
         log: &mut A,
     ) -> Turn
+        requires { 0 < length buffer.old }
         ensures kept { KeepsSlots number self.old.connections self.new.connections }
         ensures went { AllWentOn (service_of service.now) now self.old.connections.table.entries self.new.connections.table.entries }
         ensures ended { result ≡ Ended → HasEndedAt number self.new.connections.table.entries

@@ -1,21 +1,20 @@
 //! The sockets of a server: which connection gets a slot, which one is served next, and how long to wait.
-ghost use Rattle.std.specs.Prelude.{◌≡◌, ◌≢◌, ◌+◌, ◌-◌, ◌*◌, ◌<◌, ◌≤◌, ◌^◌, ◌⊎◌, ◌↔◌, ◌++◌, ◌∷◌, ℕ, [], IfErr, IfOk, IfSome, IsOk, IsSomeAnd, IsTrue, None, Ok, OnErr, OnOk, Some, drop, false, length, slice_get, true};
+ghost use Rattle.std.specs.Prelude.{◌≡◌, ◌≢◌, ◌+◌, ◌-◌, ◌<◌, ◌≤◌, ◌^◌, ◌⊎◌, ◌↔◌, ◌++◌, ◌∷◌, [], IfErr, IfOk, IfSome, IsOk, IsTrue, None, Ok, OnErr, OnOk, Some, false, length, slice_get, true};
 ghost use Rattle.std.specs.IoError.{error_kind};
 ghost use Rattle.std.specs.NonZero.{non_zero_usize_get};
 ghost use Rattle.std.specs.declared.io.ErrorKind.TheVariants.{WouldBlock};
 ghost use Rattle.cog_server.specs.Service.{service_of};
 ghost use Rattle.server_connections.specs.Table.{OthersStay, Table, timed_at};
-ghost use Rattle.server_connections.specs.Yielding.{IsFirstOverdue};
+ghost use Rattle.server_connections.specs.Yielding.{FreesAt, IsFirstOverdue};
 ghost use Rattle.mio.specs.Events.{capacity};
-ghost use Rattle.server_sockets.specs.Closings.{BeginsWith, ChangesOnly, ClosesOnly, DrainsOnly, HasDrained};
 ghost use Rattle.server_sockets.specs.Draining.{IsReadyAt, drain_of};
 ghost use Rattle.server_sockets.specs.Going.{AllWentOn};
-ghost use Rattle.server_sockets.specs.Slots.{AllStart, IsLookedAt, IsWaitedFor, HasNoSlot, KeepsAll, KeepsBusy, MayKeepOld, NoneChanges, NobodyComes, NobodyYields, Rests, StayOrStart, accepted_of, drains_of, ended_of, limits_of, next_of, ready_of, slots_of, slot_count, WakesBy, WakesIn};
 ghost use Rattle.server_sockets.specs.Refusals.{HasNoRoom, IsBarred, IsLasting, IsOfAsking, IsPassing};
 ghost use Rattle.server_sockets.specs.Turns.{GivesSlot, HasStartedAt, TriesOne};
 ghost use Rattle.server_sockets.specs.declared.refusal.AcceptError.TheVariants.{Accept};
 ghost use Rattle.server_sockets.specs.declared.turn.Turn.TheVariants.{Ended, Failed, GoesOn, Waits};
 
+mod draining;
 mod freeing;
 mod trying;
 mod waiting;
@@ -74,9 +73,13 @@ pub struct Serving {
     frees_at: Option<u64>,
     /// How many publications there were then.
     publications: u32,
+    ghost room: { 0 < length buffer.items },
 }
 
 impl Serving {
+    ghost use Rattle.server_sockets.specs.Closings.{BeginsWith, ClosesOnly, DrainsOnly};
+    ghost use Rattle.server_sockets.specs.Slots.{AllStart, HasNoSlot, KeepsAll, KeepsBacklog, KeepsBusy, KeepsFreeing, KeepsTurns, MayKeepOld, NoneChanges, NobodyComes, NobodyYields, Rests, StayOrStart, accepted_of, drains_of, ended_of, frees_of, limits_of, next_of, publications_of, ready_of, slots_of, slot_count};
+
     /// Starts to listen with `listener`, without a connection.
     pub fn new<R: Net + AllocGlobal>(
         rt: &R,
@@ -153,13 +156,14 @@ impl Serving {
 
         // No connection loses its slot, but one that may lose it.
         ensures busy { KeepsBusy now self.old self.new }
-        // Where there are more free slots than connections are accepted, none loses its slot.
-        ensures spared { self.old.out_of_descriptors ≡ false
-            → length (slots_of self.old) + (accepted_of self.new - accepted_of self.old) < slot_count self.old
+        // Where a slot is free, none loses its slot, unless the system had no room before.
+        ensures spared { self.old.out_of_descriptors ≡ false → length (slots_of self.old) < slot_count self.old
             → KeepsAll self.old self.new }
         // Each connection that has a slot is as it was, or starts at this moment.
         ensures newcomers { StayOrStart now self.old self.new }
         ensures numbers { next_of self.new ≤ next_of self.old + (accepted_of self.new - accepted_of self.old) }
+        // Who is queued for a turn stays queued, who drains goes on, and of replaced files the same is known.
+        ensures due { KeepsTurns self.old self.new }
     {
         let before = self.accepted;
         for _ in 0..u32::MAX {
@@ -189,6 +193,14 @@ impl Serving {
             → IsFirstOverdue (service_of service.now).catalogue now (limits_of self.old).patience (slots_of self.new) None }
         // Each connection is as it was, unless it was queued, its drain has ended, its socket was tried, or it is overdue.
         ensures closes { ClosesOnly (service_of service.now) now self.old self.new }
+        // Of connections in the listen backlog the same is known as before.
+        ensures backlog { KeepsBacklog self.old self.new }
+        // It is noted when a connection that keeps bytes of a replaced file will have made no progress for the patience, if one does.
+        ensures next { MayKeepOld service.now.server.now.count self.old
+            → FreesAt (service_of service.now).catalogue (limits_of self.old).patience (slots_of self.new) (frees_of self.new) }
+        ensures none_keeps { frees_of self.old ≡ None → publications_of self.old ≡ service.now.server.now.count
+            → frees_of self.new ≡ None }
+        ensures publications { publications_of self.new ≡ service.now.server.now.count }
     {
         let may_keep_old = self.may_keep_old(service.server);
         let is_due = self.is_due(may_keep_old);
@@ -234,6 +246,9 @@ impl Serving {
         ensures slots { length (slots_of self.new) ≤ length (slots_of self.old) + (accepted_of self.new - accepted_of self.old) }
         ensures newcomers { StayOrStart now self.old self.new }
         ensures numbers { next_of self.new ≤ next_of self.old + (accepted_of self.new - accepted_of self.old) }
+        ensures due { KeepsTurns self.old self.new }
+        ensures asks { IfOk result (λ again. again ≡ true → self.old.out_of_descriptors ≡ false
+            → slot_count self.new ≤ length (slots_of self.new) → self.new.accept_pending ≡ false) }
     {
         if !self.is_awaited() || !self.has_slot(now) {
             return Ok(false);
@@ -261,6 +276,7 @@ impl Serving {
         ensures nobody { NobodyComes self.old self.new }
         ensures busy { KeepsBusy now self.old self.new }
         ensures next { next_of self.new ≡ next_of self.old }
+        ensures due { KeepsTurns self.old self.new }
     {
         self.open_connections.has_slot() || self.free_slot(now)
     }
@@ -280,6 +296,7 @@ impl Serving {
         ensures nobody { NobodyComes self.old self.new }
         ensures busy { KeepsBusy now self.old self.new }
         ensures next { next_of self.new ≡ next_of self.old }
+        ensures due { KeepsTurns self.old self.new }
     {
         match self.open_connections.yields(now, self.limits.patience) {
             Some(number) => {
@@ -298,6 +315,7 @@ impl Serving {
         ensures starved { self.new.out_of_descriptors ≡ self.old.out_of_descriptors }
         ensures barred { self.new.is_barred ≡ self.old.is_barred }
         ensures nobody { NobodyComes self.old self.new }
+        ensures due { KeepsTurns self.old self.new }
     {
         self.accept_pending = false;
         let registry = self.poll.registry();
@@ -325,6 +343,7 @@ impl Serving {
         ensures newcomer { AllStart now self.old self.new }
         ensures welcomed { HasStartedAt (next_of self.old) now (slots_of self.new)
             ⊎ (ended_of self.old + 1 < 2 ^ 32 → ended_of self.new ≡ ended_of self.old + 1) }
+        ensures due { KeepsTurns self.old self.new }
     {
         self.accepted = self.accepted.saturating_add(1);
         self.is_barred = false;
@@ -364,6 +383,7 @@ impl Serving {
         ensures nobody { NobodyComes self.old self.new }
         ensures busy { KeepsBusy now self.old self.new }
         ensures next { next_of self.new ≡ next_of self.old }
+        ensures due { KeepsTurns self.old self.new }
     {
         if error.kind() == ErrorKind::WouldBlock {
             self.accept_pending = false;
@@ -398,6 +418,8 @@ impl Serving {
         ensures went { AllWentOn (service_of service.now) now (slots_of self.old) (slots_of self.new) }
         ensures queue { BeginsWith (ready_of self.new) (ready_of self.old) }
         ensures drains_only { DrainsOnly (λ k. k ≡ number) (drains_of self.old) (drains_of self.new) }
+        ensures backlog { KeepsBacklog self.old self.new }
+        ensures freeing { KeepsFreeing self.old self.new }
     {
         let buffer = &mut self.buffer;
         let turn = self
@@ -424,6 +446,8 @@ impl Serving {
         ensures failed { turn ≡ Failed → timed_at number (slots_of self.new) ≡ None }
         ensures queue { BeginsWith (ready_of self.new) (ready_of self.old) }
         ensures drains_only { DrainsOnly (λ k. k ≡ number) (drains_of self.old) (drains_of self.new) }
+        ensures backlog { KeepsBacklog self.old self.new }
+        ensures freeing { KeepsFreeing self.old self.new }
     {
         match turn {
             Turn::Waits => {}
@@ -452,46 +476,11 @@ impl Serving {
         ensures kept { slots_of self.new ≡ slots_of self.old }
         ensures drains { self.new.drains ≡ self.old.drains }
         ensures queue { BeginsWith (ready_of self.new) (ready_of self.old) }
+        ensures backlog { KeepsBacklog self.old self.new }
+        ensures freeing { KeepsFreeing self.old self.new }
     {
         self.open_connections.note_ready(number);
         self.ready.push_back(number)?;
         Ok(())
-    }
-
-    /// Closes the connections whose drain has ended by moment `now`.
-    #[tactic(auto, using(crate::proofs::SlotLemmas::nobody_yet, crate::proofs::SlotLemmas::same_on))]
-    fn end_drains(&mut self, now: u64)
-        ensures nobody { NobodyComes self.old self.new }
-        ensures same { NoneChanges self.old self.new }
-        // The first drain that is left hasn't ended yet.
-        ensures over { IfSome (slice_get self.new.drains.items 0) (λ drain. now < drain.ends) }
-        ensures closes { ChangesOnly (HasDrained now (drains_of self.old)) (slots_of self.old) (slots_of self.new) }
-    {
-        for _ in 0..self.drains.len() {
-            if !self.end_drain(now) {
-                break;
-            }
-        }
-    }
-
-    /// Closes the connection whose drain ends first, if it has ended by moment `now`. Returns whether it had.
-    fn end_drain(&mut self, now: u64) -> bool
-        ensures nobody { NobodyComes self.old self.new }
-        ensures same { NoneChanges self.old self.new }
-        ensures early { result ≡ false → (self.new ≡ self.old)
-            × IfSome (slice_get self.old.drains.items 0) (λ drain. now < drain.ends) }
-        ensures over { result ≡ true → IsSomeAnd (slice_get self.old.drains.items 0) (λ drain. (drain.ends ≤ now)
-            × (timed_at drain.number (slots_of self.new) ≡ None)) }
-        ensures gone { result ≡ true → self.new.drains.items ≡ drop 1 self.old.drains.items }
-        ensures closes { ChangesOnly (HasDrained now (drains_of self.old)) (slots_of self.old) (slots_of self.new) }
-    {
-        match self.drains.front().copied() {
-            Some(drain) if drain.ends <= now => {
-                self.drains.pop_front();
-                self.open_connections.close(drain.number);
-                true
-            }
-            _ => false,
-        }
     }
 }

@@ -99,6 +99,7 @@ fn step<A: AnswerLog>(
     bounds: Bounds,
     log: &mut ConnectionLog<'_, A>,
 ) -> io::Result<Option<usize>>
+    requires { 0 < length buffer.old }
     ensures kept { KeepsSlots socket.now.number connections.old connections.new }
     ensures went { AllWentOn (service_of service.now) bounds.now connections.old.table.entries connections.new.table.entries }
     ensures ended { IfOk result (λ count. count ≡ None → HasEndedAt socket.now.number connections.new.table.entries) }
@@ -135,6 +136,7 @@ pub fn serve_turn<A: AnswerLog>(
     now: u64,
     log: &mut ConnectionLog<'_, A>,
 ) -> Turn
+    requires { 0 < length buffer.old }
     ensures kept { KeepsSlots socket.now.number connections.old connections.new }
     ensures went { AllWentOn (service_of service.now) now connections.old.table.entries connections.new.table.entries }
     ensures ended { result ≡ Ended → HasEndedAt socket.now.number connections.new.table.entries }
@@ -192,6 +194,7 @@ pub fn drain_turn(
     socket: &ConnectionSocket,
     buffer: &mut [u8],
 ) -> Turn
+    requires { 0 < length buffer.old }
     ensures kept { KeepsSlots socket.now.number connections.old connections.new }
     // Nothing is answered, by whatever service.
     ensures went { (service : ServiceState) (now : ℕ) → AllWentOn service now connections.old.table.entries connections.new.table.entries }

@@ -3,7 +3,7 @@ ghost use Rattle.std.specs.Prelude.{◌≡◌, ◌+◌, ◌<◌, ◌↔◌, IsTr
 ghost use Rattle.std.specs.Map.{remove_entry};
 ghost use Rattle.server_connections.specs.Yielding.{FreesAt, IsFirstOverdue};
 ghost use Rattle.server_sockets.specs.Closings.{ChangesOnly, IsOverdueAt};
-ghost use Rattle.server_sockets.specs.Slots.{MayKeepOld, NobodyComes, NoneChanges, accepted_of, frees_of, limits_of, slots_of};
+ghost use Rattle.server_sockets.specs.Slots.{KeepsBacklog, KeepsFreeing, MayKeepOld, NobodyComes, NoneChanges, accepted_of, frees_of, limits_of, publications_of, slots_of};
 
 use crate::serving::Serving;
 use cog_server::Server;
@@ -11,7 +11,8 @@ use cog_server::Server;
 impl Serving {
     /// Returns whether a connection may keep bytes of a replaced file: one did before, or something was published since.
     pub(crate) fn may_keep_old(&self, server: &Server) -> bool
-        ensures { IsTrue result ↔ MayKeepOld server.now.count self.now }
+        ensures may { IsTrue result ↔ MayKeepOld server.now.count self.now }
+        ensures none { result ≡ false → (frees_of self.now ≡ None) × (publications_of self.now ≡ server.now.count) }
     {
         self.frees_at.is_some() || self.publications != server.count()
     }
@@ -34,6 +35,8 @@ impl Serving {
         ensures next { FreesAt server.now.catalogue (limits_of self.old).patience (slots_of self.new) (frees_of self.new) }
         ensures closes { ChangesOnly (IsOverdueAt server.now.catalogue now (limits_of self.old).patience (slots_of self.old))
             (slots_of self.old) (slots_of self.new) }
+        ensures backlog { KeepsBacklog self.old self.new }
+        ensures publications { publications_of self.new ≡ server.now.count }
     {
         loop {
             if !self.free_one(server, now) {
@@ -56,6 +59,8 @@ impl Serving {
             × IsFirstOverdue server.now.catalogue now (limits_of self.old).patience (slots_of self.old) None }
         ensures closes { ChangesOnly (IsOverdueAt server.now.catalogue now (limits_of self.old).patience (slots_of self.old))
             (slots_of self.old) (slots_of self.new) }
+        ensures backlog { KeepsBacklog self.old self.new }
+        ensures freeing { KeepsFreeing self.old self.new }
     {
         match self
             .open_connections

@@ -4,7 +4,7 @@ ghost use Rattle.std.specs.Prelude.{◌≡◌};
 ghost use Rattle.cog_server.specs.Additions.{ServiceState};
 ghost use Rattle.server_sockets.specs.Closings.{TriesAlone};
 ghost use Rattle.server_sockets.specs.Going.{AllWentOn};
-ghost use Rattle.server_sockets.specs.Slots.{NobodyComes, limits_of, slots_of};
+ghost use Rattle.server_sockets.specs.Slots.{KeepsBacklog, KeepsFreeing, NobodyComes, limits_of, slots_of};
 ghost use Rattle.server_sockets.specs.Turns.{TriesOne};
 
 use crate::serving::Serving;
@@ -19,6 +19,8 @@ impl Serving {
         ensures tried { TriesOne now (limits_of self.old).patience (slots_of self.old) (slots_of self.new) }
         // No other connection changes, and no other begins to drain.
         ensures alone { TriesAlone now self.old self.new }
+        ensures backlog { KeepsBacklog self.old self.new }
+        ensures freeing { KeepsFreeing self.old self.new }
     {
         let Some(number) = self.open_connections.untried(now, self.limits.patience) else {
             return;

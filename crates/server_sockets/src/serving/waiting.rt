@@ -1,7 +1,8 @@
 //! How long a server's sockets wait.
-ghost use Rattle.std.specs.Prelude.{◌≡◌, ◌≢◌, ◌+◌, ◌-◌, ◌*◌, ◌<◌, ◌≤◌, ◌⊎◌, [], IfSome, IsSomeAnd, None, OnOk, false, slice_get, true};
+ghost use Rattle.std.specs.Prelude.{◌≡◌, ◌≢◌, ◌+◌, ◌-◌, ◌*◌, ◌<◌, ◌≤◌, ◌⊎◌, [], IfSome, IsSomeAnd, None, OnErr, OnOk, false, slice_get, true};
 ghost use Rattle.std.specs.Duration.{as_nanos};
-ghost use Rattle.server_sockets.specs.Slots.{IsLookedAt, IsNoted, IsWaitedFor, NobodyComes, NoneChanges, accepted_of, frees_of, limits_of, slot_count, TriesBy, TriesIn, WakesBy, WakesIn};
+ghost use Rattle.server_sockets.specs.Closings.{BeginsWith};
+ghost use Rattle.server_sockets.specs.Slots.{IsLookedAt, IsNoted, IsWaitedFor, KeepsBacklog, KeepsFreeing, NobodyComes, NoneChanges, accepted_of, drains_of, frees_of, limits_of, ready_of, slot_count, TriesBy, TriesIn, WakesBy, WakesIn};
 
 use crate::events::note;
 use crate::moments::earlier;
@@ -20,6 +21,12 @@ impl Serving {
         ensures noted { OnOk result (IsNoted self.old self.new) }
         ensures nobody { NobodyComes self.old self.new }
         ensures same { NoneChanges self.old self.new }
+        // After an error of the system the same is known of the listen backlog as before.
+        ensures unheard { OnErr result (KeepsBacklog self.old self.new) }
+        // Who is queued for a turn stays queued, who drains goes on, and of replaced files the same is known.
+        ensures queue { BeginsWith (ready_of self.new) (ready_of self.old) }
+        ensures drains { drains_of self.new ≡ drains_of self.old }
+        ensures freeing { KeepsFreeing self.old self.new }
     {
         let timeout = self.timeout(now);
         self.poll.poll(&mut self.events, timeout)?;

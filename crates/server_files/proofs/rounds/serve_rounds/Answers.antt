@@ -1,6 +1,6 @@
-use Rattle.std.proofs.Common.{◌∙◌}
-use Rattle.server_files.specs.Publishing.{names}
-use Rattle.server_files.proofs.PublishingLemmas.{others_on}
+use Rattle.std.proofs.Common.{◌∙◌, refl}
+use Rattle.server_files.specs.Publishing.{names, never}
+use Rattle.server_files.proofs.PublishingLemmas.{again_on, others_on}
 use Rattle.server_files.proofs.rounds.serve_rounds.Goals as goal
 
 pub returns-in_err-round-clause-others : goal.returns-in_err-round-clause-others
@@ -10,9 +10,39 @@ returns-in_err-round-clause-others g c =
 pub returns-in_err-round-clause-names : goal.returns-in_err-round-clause-names
 returns-in_err-round-clause-names g c = c.round.ensures.names ∙ c.loop.invariant.same
 
+pub returns-in_err-round-clause-settings : goal.returns-in_err-round-clause-settings
+returns-in_err-round-clause-settings g c = c.round.ensures.settings ∙ c.loop.invariant.settings
+
+pub loop-init : goal.loop-init
+loop-init g c = record {
+  same = refl;
+  settings = refl;
+  limits = refl;
+  anew = never;
+  others = λ other none. refl;
+}
+
+pub returns-then-is_over-clause-anew : goal.returns-then-is_over-clause-anew
+returns-then-is_over-clause-anew g c =
+    again_on g.R.File.Read.remaining (names c.args.files.now) (names c.loop.files) c.args.server.now c.loop.server c.round.new.server c.loop.invariant.same
+    c.loop.invariant.anew c.round.ensures.anew
+
+pub returns-in-Err-clause-anew : goal.returns-in-Err-clause-anew
+returns-in-Err-clause-anew g c =
+    again_on g.R.File.Read.remaining (names c.args.files.now) (names c.loop.files) c.args.server.now c.loop.server c.round.new.server c.loop.invariant.same
+    c.loop.invariant.anew c.round.ensures.anew
+
+pub returns-in_err-round-clause-anew : goal.returns-in_err-round-clause-anew
+returns-in_err-round-clause-anew g c =
+    again_on g.R.File.Read.remaining (names c.args.files.now) (names c.loop.files) c.args.server.now c.loop.server c.round.new.server c.loop.invariant.same
+    c.loop.invariant.anew c.round.ensures.anew
+
 pub loop-preserved : goal.loop-preserved
 loop-preserved g c = record {
   same = c.round.ensures.names ∙ c.loop.invariant.same;
+  settings = c.round.ensures.settings ∙ c.loop.invariant.settings;
   limits = c.wait.ensures.nobody.limits ∙ c.round.ensures.limits ∙ c.loop.invariant.limits;
+  anew = again_on g.R.File.Read.remaining (names c.args.files.now) (names c.loop.files) c.args.server.now c.loop.server c.round.new.server c.loop.invariant.same
+      c.loop.invariant.anew c.round.ensures.anew;
   others = others_on (names c.args.files.now) (names c.loop.files) c.args.server.now c.loop.server c.round.new.server c.loop.invariant.same c.loop.invariant.others c.round.ensures.others;
 }

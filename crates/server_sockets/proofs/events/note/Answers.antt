@@ -1,9 +1,10 @@
-use Rattle.std.proofs.Common.{◌≡◌, ◌⊎◌, inl, inr, ℕ, List, refl, sym, ap, ◌∙◌, subst, arith, eqb-true}
+use Rattle.std.proofs.Common.{◌≡◌, inl, inr, refl, sym, ap, ◌∙◌, subst, arith, eqb-true}
 use Rattle.std.proofs.lemmas.Bool.{eqb-false}
 use Rattle.std.specs.Prelude.{◌↔◌, Contains, IsTrue}
 use Rattle.mio.specs.Event.{event_token}
 use Rattle.server_sockets.specs.declared.events.TheConstants.{LISTENER}
 use Rattle.server_sockets.specs.Waits.{IsQueued, sockets_of}
+use Rattle.server_sockets.proofs.ClosingLemmas.{begins_on}
 use Rattle.server_sockets.proofs.EventLemmas.{earlier_socket, last_socket, queued_since, seen_all, seen_more, stays_queued, which_socket}
 use Rattle.server_sockets.proofs.events.note.Goals as goal
 
@@ -21,6 +22,7 @@ loop-event-preserved-then-eq c =
         | inr this ↦ absurd (other (sym this ∙ listens))
       ];
       marked = is.marked;
+      begins = is.begins;
       slots = is.slots;
       same = is.same;
       ended = is.ended;
@@ -58,6 +60,7 @@ loop-event-preserved c =
         | inl same ↦ subst (λ n. IsQueued n new start after) (sym same) queued
         | inr earlier ↦ stays_queued old new start before after q.kept q.slots k (is.marked k earlier)
       ];
+      begins = begins_on c.args.ready.now.items old new is.begins q.begins;
       slots = λ k none. q.slots k (is.slots k none);
       same = λ k p some. is.same k p (q.same k p some);
       ended = omega (arith, is.ended, q.ended);

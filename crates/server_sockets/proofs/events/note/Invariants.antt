@@ -4,6 +4,7 @@ use Rattle.mio.specs.Events.{items}
 use Rattle.server_connections.specs.Table.{timed_at}
 use Rattle.server_connections.specs.declared.timed.Timed.{Timed}
 use Rattle.server_sockets.specs.declared.events.TheConstants.{LISTENER}
+use Rattle.server_sockets.specs.Closings.{BeginsWith}
 use Rattle.server_sockets.specs.Draining.{IsReadyAt}
 use Rattle.server_sockets.specs.Waits.{IsQueued, sockets_of}
 use Rattle.server_sockets.proofs.EventLemmas.{seen}
@@ -16,6 +17,7 @@ invariant-loop-event l = record {
   queued : (k : ℕ) → Contains (sockets_of (seen l.yielded)) k → k ≢ LISTENER.0
       → IsQueued k l.ready.items l.fn.open_connections l.open_connections;
   marked : (k : ℕ) → IsReadyAt k l.open_connections → IsQueued k l.ready.items l.fn.open_connections l.open_connections;
+  begins : BeginsWith l.ready.items l.fn.ready.items;
   slots : (k : ℕ) → timed_at k l.fn.open_connections.connections.table.entries ≡ None → timed_at k l.open_connections.connections.table.entries ≡ None;
   same : (k : ℕ) (p : Timed) → timed_at k l.open_connections.connections.table.entries ≡ Some p → timed_at k l.fn.open_connections.connections.table.entries ≡ Some p;
   ended : l.fn.open_connections.ended ≤ l.open_connections.ended;

@@ -1,6 +1,7 @@
-use Rattle.std.proofs.Common.{◌≡◌, ℕ, List, Some, subst}
+use Rattle.std.proofs.Common.{◌≡◌, ℕ, List, Some, rules, subst}
 use Rattle.cog_server.specs.Server.{refusal_of}
-use Rattle.disk_files.proofs.WatchLemmas.{handed_on, refused_by_size}
+use Rattle.disk_files.specs.Watching.{IsRefusedOf}
+use Rattle.disk_files.proofs.WatchLemmas.{handed_on, of_disk, of_length, refused_by_size, refused_of}
 use Rattle.disk_files.proofs.watched.Watched.publish_changed.Goals as goal
 
 pub returns-in_err-seen-clause-refused : goal.returns-in_err-seen-clause-refused
@@ -21,3 +22,23 @@ returns-in-Some-clause-refused g c =
 
 pub returns-in-Some-clause-again : goal.returns-in-Some-clause-again
 returns-in-Some-clause-again g c = λ may. absurd (c.in-Some.ensures.lasting may)
+
+pub returns-in_err-seen-clause-refused_of : goal.returns-in_err-seen-clause-refused_of
+returns-in_err-seen-clause-refused_of g c =
+    handed_on c.from_residual.result (IsRefusedOf g.R.File.Read.remaining c.args.server.now c.args.self.now.name.now) _
+    (of_disk g.R.File.Read.remaining c.args.server.now c.args.self.now.name.now _ c.in_err-seen.ensures.disk) c.from_residual.ensures.1
+
+pub returns-in_err-file-clause-refused_of : goal.returns-in_err-file-clause-refused_of
+returns-in_err-file-clause-refused_of g c =
+    handed_on c.from_residual-in_err-file.result (IsRefusedOf g.R.File.Read.remaining c.args.server.now c.args.self.now.name.now) _
+    (of_disk g.R.File.Read.remaining c.args.server.now c.args.self.now.name.now _ c.in_err-file.ensures.disk) c.from_residual-in_err-file.ensures.1
+
+pub returns-in-Some-clause-refused_of : goal.returns-in-Some-clause-refused_of
+returns-in-Some-clause-refused_of g c =
+    of_length g.R.File.Read.remaining c.args.server.now c.args.self.now.name.now c.in_ok-file.size c.in-Some.refusal (search rules)
+    (λ t file is. subst (λ (name : List ℕ). refusal_of t.count t.catalogue name file ≡ Some c.in-Some.refusal) c.as_bytes.ensures.value
+    (c.in-Some.ensures.refused t file is))
+
+pub returns-clause-refused_of : goal.returns-clause-refused_of
+returns-clause-refused_of g c =
+    refused_of g.R.File.Read.remaining c.args.server.now c.args.self.now.name.now c.in_ok-file.file _ c.publish_other_of.ensures.refused_as

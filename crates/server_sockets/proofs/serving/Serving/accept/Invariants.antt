@@ -1,5 +1,5 @@
 use Rattle.std.specs.Prelude.{◌≡◌, ◌+◌, ◌-◌, ◌<◌, ◌≤◌, false, length}
-use Rattle.server_sockets.specs.Slots.{HasNoSlot, StayOrStart, KeepsAll, KeepsBusy, accepted_of, ended_of, limits_of, next_of, slots_of, slot_count}
+use Rattle.server_sockets.specs.Slots.{HasNoSlot, StayOrStart, KeepsAll, KeepsBusy, KeepsTurns, accepted_of, ended_of, limits_of, next_of, slots_of, slot_count}
 use Rattle.server_sockets.proofs.serving.Serving.accept.Given as goal
 
 abbrev pub invariant-loop : goal.invariant-loop
@@ -12,9 +12,10 @@ invariant-loop l = record {
   busy : KeepsBusy l.now l.fn.self l.self;
   numbers : next_of l.self ≤ next_of l.fn.self + (accepted_of l.self - accepted_of l.fn.self);
   fed : l.fn.self.out_of_descriptors ≡ false → l.self.out_of_descriptors ≡ false;
-  spared : l.fn.self.out_of_descriptors ≡ false → length (slots_of l.fn.self) + (accepted_of l.self - accepted_of l.fn.self) < slot_count l.fn.self
-      → KeepsAll l.fn.self l.self;
-  held : length (slots_of l.self) ≤ length (slots_of l.fn.self) + (accepted_of l.self - accepted_of l.fn.self);
+  spared : l.fn.self.out_of_descriptors ≡ false → length (slots_of l.fn.self) < slot_count l.fn.self → KeepsAll l.fn.self l.self;
+  asked : l.fn.self.out_of_descriptors ≡ false → length (slots_of l.fn.self) < slot_count l.fn.self
+      → slot_count l.self ≤ length (slots_of l.self) → l.self.accept_pending ≡ false;
+  due : KeepsTurns l.fn.self l.self;
   newcomers : StayOrStart l.now l.fn.self l.self;
   quiet : l.fn.self.accept_pending ≡ false → l.self ≡ l.fn.self;
   full : (limits_of l.fn.self).connections ≤ accepted_of l.fn.self → l.self ≡ l.fn.self;

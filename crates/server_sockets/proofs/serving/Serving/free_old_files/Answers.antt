@@ -5,7 +5,7 @@ use Rattle.server_sockets.specs.Closings.{ChangesOnly, IsOverdueAt}
 use Rattle.server_sockets.specs.Slots.{limits_of, slots_of}
 use Rattle.server_sockets.specs.declared.serving.Limits.{Limits}
 use Rattle.server_sockets.proofs.ClosingLemmas.{overdue_on}
-use Rattle.server_sockets.proofs.SlotLemmas.{nobody_yet, same_on}
+use Rattle.server_sockets.proofs.SlotLemmas.{backlog_on, nobody_yet, same_on}
 use Rattle.server_sockets.proofs.serving.Serving.free_old_files.Goals as goal
 
 pub loop-preserved : goal.loop-preserved
@@ -18,6 +18,7 @@ loop-preserved c =
     record {
       nobody = nobody_yet first before after is.nobody c.free_one.ensures.nobody;
       same = same_on first before after is.same c.free_one.ensures.same;
+      backlog = backlog_on first before after is.backlog c.free_one.ensures.backlog;
       drains = c.free_one.ensures.drains ∙ is.drains;
       limits = c.free_one.ensures.limits ∙ is.limits;
       closes = overdue_on (λ (p : Timed). is_overdue catalogue c.args.now (limits_of first).patience p ≡ true)

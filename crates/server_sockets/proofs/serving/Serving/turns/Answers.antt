@@ -1,13 +1,14 @@
-use Rattle.std.proofs.Common.{◌≡◌, ◌∙◌, ◌+◌, ◌<◌, ℕ, arith, length, refl, subst, sym}
+use Rattle.std.proofs.Common.{◌≡◌, ◌∙◌, ◌+◌, ◌<◌, ◌≤◌, ℕ, ap, arith, le_trans, length, refl, subst, sym}
 use Rattle.cog_server.specs.Additions.{ServiceState}
 use Rattle.cog_server.specs.Service.{service_of}
+use Rattle.server_connections.specs.Table.{timed_at}
 use Rattle.server_sockets.specs.declared.serving.Serving.{Serving}
 use Rattle.server_sockets.specs.Closings.{IsOverdueAt, TriesAlone}
 use Rattle.server_sockets.specs.Going.{AllWentOn}
-use Rattle.server_sockets.specs.Slots.{NobodyComes, limits_of, ready_of, slots_of}
+use Rattle.server_sockets.specs.Slots.{KeepsBacklog, KeepsFreeing, NobodyComes, accepted_of, ended_of, frees_of, limits_of, publications_of, ready_of, slots_of, slot_count}
 use Rattle.server_sockets.proofs.ClosingLemmas.{Turned, changes_none, closing, queue_has_next, tries_none, turned_more}
 use Rattle.server_sockets.proofs.GoingLemmas.{all_on, all_still}
-use Rattle.server_sockets.proofs.SlotLemmas.{nobody_yet, went_still}
+use Rattle.server_sockets.proofs.SlotLemmas.{went_still}
 use Rattle.server_sockets.proofs.serving.Serving.turns.Goals as goal
 use Rattle.server_sockets.proofs.serving.Serving.turns.Goals.{then-is_due, else-is_due, in-Some, in_default}
 
@@ -19,22 +20,42 @@ Tries service now turned tried =
 not_tried : (service : ServiceState) (now : ℕ) (turned : Serving) → Tries service now turned turned
 not_tried service now turned = (tries_none now turned, all_still service now (slots_of turned) (slots_of turned) (λ k p there. there), refl)
 
+-- where one is taken from the queue, and then has its turn, the same holds as behind a turn
+popped_nobody : (a b popped c : Serving) → NobodyComes popped c → (slots_of popped ≡ slots_of b) × (accepted_of popped ≡ accepted_of b)
+    × (slot_count popped ≡ slot_count b) × (limits_of popped ≡ limits_of b) × (ended_of popped ≡ ended_of b) → NobodyComes a b → NobodyComes a c
+popped_nobody a b popped c then (slots, accepted, room, limits, ended) first = record {
+  slots = λ k none. then.slots k (ap (timed_at k) slots ∙ first.slots k none);
+  accepted = then.accepted ∙ accepted ∙ first.accepted;
+  room = then.room ∙ room ∙ first.room;
+  limits = then.limits ∙ limits ∙ first.limits;
+  ended = le_trans first.ended (subst (λ n. n ≤ ended_of c) ended then.ended);
+}
+
+popped_backlog : (a b popped c : Serving) → KeepsBacklog popped c → (popped.accept_pending ≡ b.accept_pending)
+    × (popped.out_of_descriptors ≡ b.out_of_descriptors) × (popped.is_barred ≡ b.is_barred) → KeepsBacklog a b → KeepsBacklog a c
+popped_backlog a b popped c then (waits, starved, barred) first = record {
+  waits = then.waits ∙ waits ∙ first.waits;
+  starved = then.starved ∙ starved ∙ first.starved;
+  barred = then.barred ∙ barred ∙ first.barred;
+}
+
+popped_freeing : (a b popped c : Serving) → KeepsFreeing popped c → (frees_of popped ≡ frees_of b) × (publications_of popped ≡ publications_of b)
+    → KeepsFreeing a b → KeepsFreeing a c
+popped_freeing a b popped c then (frees, publications) first = record {
+  frees = then.frees ∙ frees ∙ first.frees;
+  publications = then.publications ∙ publications ∙ first.publications;
+}
+
 pub loop-preserved : goal.loop-preserved
 loop-preserved g c =
     let service = service_of c.args.service.now in
     let first = c.args.self.now in
     let before = c.loop.self in
     let is = c.loop.invariant in
-    let popped : Serving = record before { ready = c.pop_front.new.self } in
-    let nobody : NobodyComes first popped = record {
-      slots = is.nobody.slots;
-      accepted = is.nobody.accepted;
-      room = is.nobody.room;
-      limits = is.nobody.limits;
-      ended = is.nobody.ended;
-    } in
     let so_far : Turned service c.args.now c.loop.counter first before = record {
       nobody = is.nobody;
+      backlog = is.backlog;
+      freeing = is.freeing;
       went = is.went;
       queue = is.queue;
       queued = is.queued;
@@ -45,12 +66,16 @@ loop-preserved g c =
     elim c.match-pop_front.branch [
       | in-Some w ↦ subst (Turned service c.args.now (c.loop.counter + 1) first) (sym w.self-is)
           (turned_more service c.args.now c.loop.counter w.in-Some.number first before w.turn.new.self c.pop_front.new.self.items within so_far
-          w.in-Some.ensures.items (nobody_yet first popped w.turn.new.self nobody w.turn.ensures.nobody) w.turn.ensures.went
+          w.in-Some.ensures.items (popped_nobody first before _ w.turn.new.self w.turn.ensures.nobody (refl, refl, refl, refl, refl) is.nobody)
+          (popped_backlog first before _ w.turn.new.self w.turn.ensures.backlog (refl, refl, refl) is.backlog)
+          (popped_freeing first before _ w.turn.new.self w.turn.ensures.freeing (refl, refl) is.freeing) w.turn.ensures.went
           w.turn.ensures.others w.turn.ensures.queue w.turn.ensures.drains_only)
       | in_default w ↦ absurd (queue_has_next c.loop.counter (ready_of first) (ready_of before) within is.queue (sym before.ready.ok.0 ∙ w.in_default.ensures.cases.0))
     ] in
     record {
       nobody = turned.nobody;
+      backlog = turned.backlog;
+      freeing = turned.freeing;
       went = turned.went;
       all = is.all;
       queue = turned.queue;
