@@ -330,7 +330,7 @@ struct delgunsai_step {
     uint32_t kind;           /* what to do next */
     struct cog_said said;    /* after an exchange, what the answer did, as cog_client_end lays it; after a check, what it says */
     uint32_t status;         /* after an exchange or a check, the status code of the answer; 0 where no whole head came */
-    uint32_t alone;          /* after an exchange, 1 where no other request was sent with its request */
+    uint32_t alone;          /* after an exchange, 1 where no other request was sent with its request; no contract says so */
 };
 
 /* delgunsai_client_go_on: takes bytes that came, and says what to do next. `length` is 0 where nothing came since the last call. Bytes
