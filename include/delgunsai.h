@@ -343,10 +343,12 @@ int32_t delgunsai_client_go_on(struct cog_client *client, const uint8_t *bytes, 
  * there are in all, or COG_NO_CLIENT. */
 int64_t delgunsai_client_waiting(struct cog_client *client, uint8_t *room, size_t length);
 
-/* delgunsai_client_wrote: notes that the first `count` bytes that waited were written. Gives 0, COG_ORDER or COG_NO_CLIENT. */
+/* delgunsai_client_wrote: notes that the first `count` bytes that waited were written. Gives 0; COG_ORDER, where fewer waited, or neither a
+ * check nor an exchange with a connection is under way; or COG_NO_CLIENT. */
 int32_t delgunsai_client_wrote(struct cog_client *client, size_t count);
 
-/* delgunsai_client_connected: notes that a new connection is there. Gives 0, COG_ORDER, COG_MEMORY or COG_NO_CLIENT. */
+/* delgunsai_client_connected: notes that a new connection is there. Gives 0; COG_ORDER, where a check has one already, or neither a check
+ * nor an exchange is under way; COG_MEMORY or COG_NO_CLIENT. */
 int32_t delgunsai_client_connected(struct cog_client *client);
 
 /* delgunsai_client_silent: notes that nothing came on the connection before the request is written. Gives 0 or COG_NO_CLIENT. */
