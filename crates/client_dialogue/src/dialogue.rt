@@ -157,7 +157,7 @@ impl Dialogue {
     /// end the connection, and are dropped with it. Bytes that stand there before there is a connection are of another one, and are
     /// dropped.
     ///
-    /// Fails without memory. The exchange that was under way is over then, and so is its connection. What of its answer was taken stays.
+    /// Fails without memory. The history goes on then by at most one round in which memory ran out. What of its answer was taken stays.
     pub fn go_on(&mut self, client: &mut Client, bytes: &[u8]) -> Result<Progress, Memory>
         ensures few { IfOk result (λ progress. progress.count ≤ length bytes.now) }
         ensures drops { IfOk result (λ progress. progress.step ≡ Connect → progress.count ≡ length bytes.now) }

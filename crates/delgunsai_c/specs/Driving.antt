@@ -80,7 +80,7 @@ DrivesBy None bytes out h k = (n : ℕ) × (step : Step) × (out ≡ numbers_of 
 DrivesBy (Some s) bytes out h k =
     (n : ℕ) × (step : CheckStep) × (status : ℕ) × (out ≡ check_numbers_of n step status) × ChecksOn bytes n step status s h k
 
--- Memory was wanting: the exchange is over, or the check is.
+-- Memory was wanting: the history goes on by at most one round that says so, or the check is over.
 abbrev pub FailsBy : Option Status → Held → Held → Type 0
 FailsBy None h k = Goes Fails [] h.dialogue h.client k.dialogue k.client × (k.check ≡ None) × (k.exchanges ≡ h.exchanges)
 FailsBy (Some s) h k = k ≡ record h { check = None }

@@ -89,7 +89,7 @@ fn check_step(taken: usize, step: CheckStep, status: u16) -> NextStep
     }
 }
 
-/// Takes bytes of an exchange, and returns the next step. Fails where no memory is left: the exchange is over then.
+/// Takes bytes of an exchange, and returns the next step. Fails where no memory is left: an exchange may be over then.
 fn exchange(held: &mut Held, bytes: &[u8]) -> Result<NextStep, Memory>
     requires { held.old.check ≡ None }
     ensures ok { IfOk result (λ step. DrivesBy held.old.check bytes.now step held.old held.new) }
@@ -100,7 +100,7 @@ fn exchange(held: &mut Held, bytes: &[u8]) -> Result<NextStep, Memory>
 }
 
 /// Takes bytes of the check that is under way, or else of an exchange, and returns the next step. Fails where no memory is left: the check
-/// or the exchange is over then.
+/// is over then, or an exchange may be.
 fn go_on(held: &mut Held, bytes: &[u8]) -> Result<NextStep, Memory>
     ensures ok { IfOk result (λ step. DrivesBy held.old.check bytes.now step held.old held.new) }
     ensures err { OnErr result (FailsBy held.old.check held.old held.new) }

@@ -95,8 +95,8 @@ fn pixels(client: &Client, room: &mut [u8]) -> i64
     }
 }
 
-/// Copies the text of the Info that is reported to `room`. Returns its length in bytes, `COG_NO_REPORT`, `COG_OTHER_REPORT` or
-/// `COG_MEMORY`.
+/// Copies the text of the Info that is reported to `room`: it begins with the line of the ETag. Returns its length in bytes,
+/// `COG_NO_REPORT`, `COG_OTHER_REPORT` or `COG_MEMORY`.
 fn info(alloc: Global, client: &Client, room: &mut [u8]) -> i64
     ensures { TellsInfo client.now room.old room.new result }
 {
@@ -152,8 +152,8 @@ pub extern "C" fn cog_client_pixels(alloc: Global, client: &mut Handle, room: &m
     told
 }
 
-/// Copies the text of the Info that is reported to `room`. Returns its length in bytes, `COG_NO_REPORT`, `COG_OTHER_REPORT`, `COG_MEMORY`
-/// or `COG_NO_CLIENT`.
+/// Copies the text of the Info that is reported to `room`: it begins with the line of the ETag. Returns its length in bytes,
+/// `COG_NO_REPORT`, `COG_OTHER_REPORT`, `COG_MEMORY` or `COG_NO_CLIENT`.
 #[unsafe(no_mangle)]
 pub extern "C" fn cog_client_info(alloc: Global, client: &mut Handle, room: &mut [u8]) -> i64
     ensures does { Calls (λ s t. Kept (TellsInfo s room.old room.new result) s t)

@@ -88,7 +88,7 @@ abbrev pub GivesNone : Asked → Outcome → NotGiven → Type 0
 GivesNone (asked.Part part) (outcome.Info i) why = part_given i part ≡ Err why
 GivesNone a o why = ⊥
 
--- a description for programs is JSON, with the end of a line after it
+-- a description for programs is laid out as JSON is, with the end of a line after it
 abbrev pub IsInForm : Form → List ℕ → Type 0
 IsInForm form text = form ≡ Json → IsLine IsJson text
 

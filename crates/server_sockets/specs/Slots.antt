@@ -152,8 +152,8 @@ pub record KeepsTurns (old new : Serving) : Type 0 where
   pub drains : drains_of new ≡ drains_of old
   pub freeing : KeepsFreeing old new
 
--- What the system reported is noted: each connection is queued for its turn, or gone. That one may wait in the listen backlog is
--- remembered, also from before.
+-- What the system reported is noted: each connection is queued for its turn, was marked as queued, or is gone. That one may wait in the
+-- listen backlog is remembered, also from before.
 pub record IsNoted (old new : Serving) : Type 0 where
   pub heard : (new.accept_pending ≡ true) ↔ ((old.accept_pending ≡ true) ⊎ Contains (sockets_of (events_of new)) LISTENER.0)
   pub queued : (k : ℕ) → Contains (sockets_of (events_of new)) k → k ≢ LISTENER.0

@@ -184,11 +184,13 @@ impl Serving {
         ensures went { AllWentOn (service_of service.now) now (slots_of self.old) (slots_of self.new) }
         // The first drain that is left hasn't ended yet.
         ensures over { IfSome (slice_get self.new.drains.items 0) (λ drain. now < drain.ends) }
-        // Of the sockets that are to be tried after these turns, the one that was tried the longest ago is tried.
+        // Where a connection may wait in the listen backlog, one socket is tried of those that are to be tried after these turns: the one
+        // that was tried the longest ago.
         ensures tried { self.old.accept_pending ≡ true → accepted_of self.old < (limits_of self.old).connections → (turned : Table)
             × AllWentOn (service_of service.now) now (slots_of self.old) turned
             × TriesOne now (limits_of self.old).patience turned (slots_of self.new) }
-        // No connection is left that keeps bytes of a replaced file, has made no progress for the patience, and whose socket takes none.
+        // No connection is left that keeps bytes of a replaced file, has made no progress for the patience, and whose socket was tried at
+        // this moment and took none.
         ensures freed { MayKeepOld service.now.server.now.count self.old
             → IsFirstOverdue (service_of service.now).catalogue now (limits_of self.old).patience (slots_of self.new) None }
         // Each connection is as it was, unless it was queued, its drain has ended, its socket was tried, or it is overdue.
@@ -356,8 +358,8 @@ impl Serving {
     }
 
     /// Handles the `error` of an accept at moment `now`, and returns whether to try again at once. That is so where the system had no room,
-    /// and an open connection was closed to make some. Otherwise the next wait reports a connection that still waits, or it is tried
-    /// again within a second. One that the system bars is tried again after the turns of the others.
+    /// and an open connection was closed to make some. Otherwise lack of room, or a bar, is noted, or that none waits. One that the system
+    /// bars is tried again after the turns of the others.
     fn may_try_again(&mut self, error: io::Error, now: u64) -> Result<bool, AcceptError>
         ensures again { IfOk result (λ again. again ≡ true → HasNoRoom error
             × GivesSlot now self.old.limits.patience (slots_of self.old) (slots_of self.new)) }

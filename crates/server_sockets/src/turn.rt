@@ -140,7 +140,7 @@ pub fn serve_turn<A: AnswerLog>(
     ensures kept { KeepsSlots socket.now.number connections.old connections.new }
     ensures went { AllWentOn (service_of service.now) now connections.old.table.entries connections.new.table.entries }
     ensures ended { result ≡ Ended → HasEndedAt socket.now.number connections.new.table.entries }
-    // One that has ended neither goes on nor waits: it ends in the turn in which the last byte of its last answer is taken.
+    // One that has ended neither goes on nor waits.
     ensures goes_on { result ≡ GoesOn → IsOpenAt socket.now.number connections.old.table.entries
         × IsOpenAt socket.now.number connections.new.table.entries }
     ensures waits { result ≡ Waits → IsOpenAt socket.now.number connections.old.table.entries
@@ -170,8 +170,8 @@ pub fn serve_turn<A: AnswerLog>(
     }
 }
 
-/// Tries at moment `now` to write what waits on a connection. The outcome is `GoesOn` where its socket took bytes, `Ended` where these were
-/// the last, and `Waits` where it took none.
+/// Tries at moment `now` to write what waits on a connection. The outcome is `GoesOn` where its socket took bytes or a signal came, `Ended`
+/// where these were the last, `Waits` where it took none, and `Failed` after an error.
 #[tactic(auto, using(crate::proofs::GoingLemmas::tries))]
 pub fn try_turn(connections: &mut Connections, socket: &ConnectionSocket, now: u64) -> Turn
     ensures kept { KeepsSlots socket.now.number connections.old connections.new }

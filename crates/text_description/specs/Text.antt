@@ -3,7 +3,7 @@ use Rattle.std.specs.Prelude.{◌≡◌, ℕ, List, ◌++◌, codes}
 use Rattle.json.specs.Layout.{pretty}
 use Rattle.json.specs.Lex.{tokens}
 
--- the text is JSON, laid out with lines and indents
+-- the text is laid out as JSON is, with lines and indents
 abbrev pub IsJson : List ℕ → Type 0
 IsJson text = text ≡ pretty (tokens text)
 
