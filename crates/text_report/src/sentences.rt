@@ -122,9 +122,21 @@ fn plain_sentence(fault: FileFault) -> &'static str {
     }
 }
 
-/// Prints what helps against a fault, as a sentence without a full stop.
+/// Prints what helps against a fault, as a sentence without a full stop. `found` is the value that isn't read, if it is known.
 #[derive(Clone, Copy, Debug, PartialEq, Eq)]
-pub struct WayOut(pub FileFault);
+pub struct WayOut {
+    pub fault: FileFault,
+    pub found: Option<u64>,
+}
+
+/// The PhotometricInterpretation of most JPEG files (TIFF 6.0, section 21), which GDAL reads as RGB.
+const YCBCR: u64 = 6;
+
+/// The SampleFormat of integers with a sign (TIFF 6.0, section 19). Those of 16 bits are converted by adding 32768.
+const SIGNED: u64 = 2;
+
+/// Options that map the values of a file to 16 bits. Without numbers GDAL maps them to 0 to 255.
+const SCALED: &str = " -ot UInt16 -scale MIN MAX 0 65535";
 
 /// Returns what helps against a fault that no conversion mends, or `None` where one may mend it.
 fn way_without_conversion(fault: FileFault) -> Option<&'static str> {
@@ -138,33 +150,46 @@ fn way_without_conversion(fault: FileFault) -> Option<&'static str> {
     }
 }
 
+/// Returns the options of `gdal_translate` against a value of the field `tag`, `found` if it is known, that isn't read.
+fn options_for_value(tag: u16, found: Option<u64>) -> &'static str {
+    match (tag, found) {
+        (tags::BITS_PER_SAMPLE, Some(1 | 2 | 4)) => " -co NBITS=8 -co PHOTOMETRIC=MINISBLACK",
+        (tags::BITS_PER_SAMPLE, _) => SCALED,
+        (tags::PHOTOMETRIC_INTERPRETATION, Some(YCBCR)) => "",
+        (tags::PHOTOMETRIC_INTERPRETATION, _) => " -co PHOTOMETRIC=MINISBLACK",
+        (tags::SAMPLES_PER_PIXEL, Some(2)) => " -b 1",
+        (tags::SAMPLES_PER_PIXEL, _) => " -b 1 -b 2 -b 3 -co PHOTOMETRIC=RGB",
+        (tags::PLANAR_CONFIGURATION, _) => " -co INTERLEAVE=PIXEL",
+        (tags::SAMPLE_FORMAT, Some(SIGNED)) => " -ot UInt16 -scale -32768 32767 0 65535",
+        (tags::SAMPLE_FORMAT, _) => SCALED,
+        _ => "",
+    }
+}
+
 /// Returns the options of `gdal_translate` for the conversion that helps against a fault, beside those that each conversion has.
-fn options_for(fault: FileFault) -> &'static str {
+fn options_for(fault: FileFault, found: Option<u64>) -> &'static str {
     match fault {
         FileFault::Header => " -co BIGTIFF=NO",
         FileFault::TileArray => " -co BLOCKXSIZE=512 -co BLOCKYSIZE=512",
         FileFault::TileSize => " -co BLOCKXSIZE=256 -co BLOCKYSIZE=256",
-        FileFault::Unsupported(tag) => match tag {
-            tags::BITS_PER_SAMPLE => " -co NBITS=8 -ot Byte -scale",
-            tags::PHOTOMETRIC_INTERPRETATION => " -co PHOTOMETRIC=MINISBLACK",
-            tags::SAMPLES_PER_PIXEL => " -b 1",
-            tags::PLANAR_CONFIGURATION => " -co INTERLEAVE=PIXEL",
-            tags::SAMPLE_FORMAT => " -ot UInt16 -scale",
-            _ => "",
-        },
+        FileFault::Unsupported(tag) => options_for_value(tag, found),
         _ => "",
     }
 }
 
 impl fmt::Display for WayOut {
     fn fmt<W: fmt::Write>(&self, f: &mut fmt::Formatter<W>) -> fmt::Result {
-        if let Some(words) = way_without_conversion(self.0) {
+        if let Some(words) = way_without_conversion(self.fault) {
             return f.write_str(words);
         }
-        let options = options_for(self.0);
+        let options = options_for(self.fault, self.found);
+        f.write_str("Convert it")?;
+        if options == SCALED {
+            f.write_str(", with MIN and MAX from gdalinfo -mm")?;
+        }
         write!(
             f,
-            "Convert it: gdal_translate -co TILED=YES -co COMPRESS=PACKBITS{options} in.tif out.tif"
+            ": gdal_translate -co TILED=YES -co COMPRESS=PACKBITS{options} in.tif out.tif"
         )
     }
 }
@@ -252,6 +277,13 @@ fn whole_level(levels: &[Level]) -> Option<usize> {
 }
 
 impl ExplainedFault {
+    fn way(&self) -> WayOut {
+        WayOut {
+            fault: self.fault,
+            found: self.found,
+        }
+    }
+
     /// Prints what helps against the fault.
     fn print_way<W: fmt::Write>(&self, f: &mut fmt::Formatter<W>) -> fmt::Result {
         match self.fault {
@@ -265,9 +297,9 @@ impl ExplainedFault {
                         "Ask for less: --level {number} is the largest that fits whole"
                     )
                 }
-                None => write!(f, "{}", WayOut(self.fault)),
+                None => write!(f, "{}", self.way()),
             },
-            fault => write!(f, "{}", WayOut(fault)),
+            _ => write!(f, "{}", self.way()),
         }
     }
 }

@@ -61,29 +61,45 @@ const CONVERT: &str = "Convert it: gdal_translate -co TILED=YES -co COMPRESS=PAC
 
 const FILES: &str = " in.tif out.tif";
 
-/// Faults, and the options that the conversion wants then (gdal_translate and the driver GTiff of GDAL).
+/// What the words of a conversion begin with that needs the least and the greatest value of a file.
+const CONVERT_SCALED: &str =
+    "Convert it, with MIN and MAX from gdalinfo -mm: gdal_translate -co TILED=YES -co COMPRESS=PACKBITS";
+
+/// Faults, the value that was found, and the options that the conversion wants then (gdal_translate and the driver GTiff of GDAL).
 #[rattlefmt::skip]
-const OPTIONS: [(FileFault, &str); 20] = [
-    (FileFault::Header, " -co BIGTIFF=NO"),
-    (FileFault::DirPlace, ""),
-    (FileFault::DirCount, ""),
-    (FileFault::TagOrder, ""),
-    (FileFault::TooManyDirs, ""),
-    (FileFault::Missing(322), ""),
-    (FileFault::FieldType(254), ""),
-    (FileFault::Unsupported(258), " -co NBITS=8 -ot Byte -scale"),
-    (FileFault::Unsupported(259), ""),
-    (FileFault::Unsupported(262), " -co PHOTOMETRIC=MINISBLACK"),
-    (FileFault::Unsupported(277), " -b 1"),
-    (FileFault::Unsupported(284), " -co INTERLEAVE=PIXEL"),
-    (FileFault::Unsupported(339), " -ot UInt16 -scale"),
-    (FileFault::LevelShape, ""),
-    (FileFault::TileArray, " -co BLOCKXSIZE=512 -co BLOCKYSIZE=512"),
-    (FileFault::TileSize, " -co BLOCKXSIZE=256 -co BLOCKYSIZE=256"),
-    (FileFault::Packet, ""),
-    (FileFault::KeyHead, ""),
-    (FileFault::KeyOrder, ""),
-    (FileFault::KeyPlace, ""),
+const OPTIONS: [(FileFault, Option<u64>, &str); 24] = [
+    (FileFault::Header, None, " -co BIGTIFF=NO"),
+    (FileFault::DirPlace, None, ""),
+    (FileFault::DirCount, None, ""),
+    (FileFault::TagOrder, None, ""),
+    (FileFault::TooManyDirs, None, ""),
+    (FileFault::Missing(322), None, ""),
+    (FileFault::FieldType(254), None, ""),
+    (FileFault::Unsupported(258), Some(1), " -co NBITS=8 -co PHOTOMETRIC=MINISBLACK"),
+    (FileFault::Unsupported(258), Some(4), " -co NBITS=8 -co PHOTOMETRIC=MINISBLACK"),
+    (FileFault::Unsupported(259), None, ""),
+    (FileFault::Unsupported(259), Some(5), ""),
+    (FileFault::Unsupported(262), None, " -co PHOTOMETRIC=MINISBLACK"),
+    (FileFault::Unsupported(262), Some(3), " -co PHOTOMETRIC=MINISBLACK"),
+    (FileFault::Unsupported(262), Some(6), ""),
+    (FileFault::Unsupported(277), Some(2), " -b 1"),
+    (FileFault::Unsupported(277), Some(4), " -b 1 -b 2 -b 3 -co PHOTOMETRIC=RGB"),
+    (FileFault::Unsupported(277), None, " -b 1 -b 2 -b 3 -co PHOTOMETRIC=RGB"),
+    (FileFault::Unsupported(284), None, " -co INTERLEAVE=PIXEL"),
+    (FileFault::Unsupported(339), Some(2), " -ot UInt16 -scale -32768 32767 0 65535"),
+    (FileFault::LevelShape, None, ""),
+    (FileFault::TileArray, None, " -co BLOCKXSIZE=512 -co BLOCKYSIZE=512"),
+    (FileFault::TileSize, None, " -co BLOCKXSIZE=256 -co BLOCKYSIZE=256"),
+    (FileFault::Packet, None, ""),
+    (FileFault::KeyPlace, None, ""),
+];
+
+/// Faults whose conversion needs the least and the greatest value, and the value that was found.
+const SCALED: [(FileFault, Option<u64>); 4] = [
+    (FileFault::Unsupported(258), None),
+    (FileFault::Unsupported(258), Some(32)),
+    (FileFault::Unsupported(339), None),
+    (FileFault::Unsupported(339), Some(3)),
 ];
 
 /// Faults against which no conversion helps, and what does.
@@ -113,7 +129,8 @@ const EXPLAINED: [(FileFault, Option<u64>, &str); 5] = [
         FileFault::Unsupported(258),
         Some(32),
         "fault 9 258: BitsPerSample (258) is 32: only 8 or 16 bits are read, the same for all samples. \
-        Convert it: gdal_translate -co TILED=YES -co COMPRESS=PACKBITS -co NBITS=8 -ot Byte -scale in.tif out.tif",
+        Convert it, with MIN and MAX from gdalinfo -mm: gdal_translate -co TILED=YES -co COMPRESS=PACKBITS \
+        -ot UInt16 -scale MIN MAX 0 65535 in.tif out.tif",
     ),
     (
         FileFault::Unsupported(262),
@@ -167,13 +184,20 @@ fn tells_faults_as_sentences(rt: HostRuntime) -> Result<(), Fail> {
 
 #[test]
 fn tells_what_helps(rt: HostRuntime) -> Result<(), Fail> {
-    for (fault, options) in OPTIONS {
-        let told = format!(in rt.alloc(); "{}", WayOut(fault))?;
+    for (fault, found, options) in OPTIONS {
+        let told = format!(in rt.alloc(); "{}", WayOut { fault, found })?;
         let want = format!(in rt.alloc(); "{CONVERT}{options}{FILES}")?;
         assert_eq!(rt; told.as_str(), want.as_str());
     }
+    for (fault, found) in SCALED {
+        let told = format!(in rt.alloc(); "{}", WayOut { fault, found })?;
+        let want = format!(in rt.alloc();
+            "{CONVERT_SCALED} -ot UInt16 -scale MIN MAX 0 65535{FILES}"
+        )?;
+        assert_eq!(rt; told.as_str(), want.as_str());
+    }
     for (fault, want) in WAYS {
-        let told = format!(in rt.alloc(); "{}", WayOut(fault))?;
+        let told = format!(in rt.alloc(); "{}", WayOut { fault, found: None })?;
         assert_eq!(rt; told.as_str(), want);
     }
     Ok(())
