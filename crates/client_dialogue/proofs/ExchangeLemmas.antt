@@ -22,7 +22,8 @@ use Rattle.client_dialogue.specs.Inside.{Concludes, Halts, HasGoneOn, IsConclude
 use Rattle.client_dialogue.specs.declared.step.Step.{Step}
 use Rattle.client_dialogue.specs.declared.step.Step.TheVariants.{More}
 use Rattle.client_dialogue.specs.Goes.{rounds_of}
-use Rattle.client_dialogue.proofs.HistoryLemmas.{IsQuiet, IsTextOf, begun_goes, begun_on, body_goes, both_true, build, can-end, ended_adds, ends_goes, few_at, gone_adds, halted_goes, live_of, made_goes, next, none_goes, open_fresh, own_next, quiet_goes, run-end, same_came, then_let_go, under_false, under_true}
+use Rattle.client_dialogue.proofs.EventLemmas.{can-end, own_next, run-end, same_came}
+use Rattle.client_dialogue.proofs.HistoryLemmas.{IsQuiet, IsTextOf, begun_goes, begun_on, body_goes, both_true, build, ended_adds, ends_goes, few_at, gone_adds, halted_goes, live_of, made_goes, next, none_goes, open_fresh, quiet_goes, then_let_go, under_false, under_true}
 
 -- ---- queries
 

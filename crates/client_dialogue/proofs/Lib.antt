@@ -1,3 +1,4 @@
+mod EventLemmas
 mod HistoryLemmas
 mod ExchangeLemmas
 mod Results

@@ -6,6 +6,6 @@ mod stamp;
 mod watched;
 mod writing;
 
-pub use reading::read_file;
+pub use reading::{FileError, read_file};
 pub use watched::{WatchError, Watched};
 pub use writing::replace_file;

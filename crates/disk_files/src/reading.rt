@@ -3,12 +3,14 @@ ghost use Rattle.std.specs.Prelude.{◌≡◌, ◌<◌, ◌+◌, ℕ, List, IfOk
 ghost use Rattle.http_range.specs.declared.publication.TheConstants.{FILE_LIMIT};
 ghost use Rattle.disk_files.specs.Given.{IsDifference};
 
+use crate::stamp::Stamp;
 use http_range::FILE_LIMIT;
 use std::alloc::Global;
-use std::fs::File;
+use std::fs::{File, OpenFile};
 use std::io;
 use std::io::Read;
 use std::rt::Files;
+use thiserror::Error;
 
 /// One byte more than a published file may have. What comes after it isn't read.
 const ENOUGH: u64 = FILE_LIMIT as u64 + 1;
@@ -26,13 +28,41 @@ pub fn enough_of<R: Read + Drop>(alloc: Global, reader: R) -> io::Result<Vec<u8>
     Ok(bytes)
 }
 
-/// Returns the bytes of the file at a path, but at most `FILE_LIMIT + 1`. Fails where it can't be opened or read, or where no memory is
-/// left.
-pub fn read_file<R: Files + AllocGlobal>(rt: &R, path: &str) -> io::Result<Vec<u8>>
+/// Says why the bytes of a file aren't returned.
+#[derive(Debug, Drop, Error)]
+pub enum FileError {
+    /// The system says why.
+    #[error("{0}")]
+    Io(io::Error),
+    /// Another program wrote to the file while it was read. So its bytes may be of two contents.
+    #[error("it was written while it was read")]
+    Written,
+}
+
+impl From<io::Error> for FileError {
+    ghost use Rattle.std.specs.Prelude.{◌≡◌};
+    ghost use Rattle.disk_files.specs.declared.reading.FileError.TheVariants.{Io};
+
+    ghost from_gives = { λ error told. told ≡ Io error };
+
+    fn from(error: io::Error) -> FileError {
+        FileError::Io(error)
+    }
+}
+
+/// Returns the bytes of the file at a path, but at most `FILE_LIMIT + 1`. Fails with `Io` where it can't be opened or read, or where no
+/// memory is left. Fails with `Written` where its length or its times changed meanwhile.
+pub fn read_file<R: Files + AllocGlobal>(rt: &R, path: &str) -> Result<Vec<u8>, FileError>
     ensures { IfOk result (λ bytes. (file : R.File)
         × ((given : List ℕ) → R.File.remaining file ≡ Some given → bytes.items ≡ take (FILE_LIMIT + 1) given)) }
 {
-    enough_of(rt.alloc(), File::open(rt, path)?)
+    let mut file = File::open(rt, path)?;
+    let before = Stamp::of(&file.metadata()?);
+    let bytes = enough_of(rt.alloc(), &mut file)?;
+    if Stamp::of(&file.metadata()?) != before {
+        return Err(FileError::Written);
+    }
+    Ok(bytes)
 }
 
 /// Holds where a reader gives other bytes than expected. `same` bytes came as expected, and then a piece with `other` bytes, which is empty

@@ -52,20 +52,31 @@ fn settled(stamp: Stamp, now: Duration) -> Option<Stamp>
     }
 }
 
+impl Stamp {
+    ghost use Rattle.std.specs.Prelude.{◌≡◌};
+    ghost use Rattle.std.specs.Fs.{metadata_len};
+
+    /// Makes the stamp of a file that was looked at.
+    pub fn of(metadata: &Metadata) -> Stamp
+        ensures { result.length ≡ metadata_len metadata.now }
+    {
+        Stamp {
+            device: metadata.dev(),
+            inode: metadata.ino(),
+            length: metadata.size(),
+            modified: (metadata.mtime(), metadata.mtime_nsec()),
+            changed: (metadata.ctime(), metadata.ctime_nsec()),
+        }
+    }
+}
+
 /// Returns the stamp of a file that was looked at at `now` or later. Returns `None` where a later write of its bytes might not show in it.
 /// `now` is since 1970.
 pub fn stamp_of(metadata: &Metadata, now: Duration) -> Option<Stamp>
     ensures settled { IfSome result (λ stamp. IsSettledSince stamp.changed (as_nanos now)) }
     ensures length { IfSome result (λ stamp. stamp.length ≡ metadata_len metadata.now) }
 {
-    let stamp = Stamp {
-        device: metadata.dev(),
-        inode: metadata.ino(),
-        length: metadata.size(),
-        modified: (metadata.mtime(), metadata.mtime_nsec()),
-        changed: (metadata.ctime(), metadata.ctime_nsec()),
-    };
-    settled(stamp, now)
+    settled(Stamp::of(metadata), now)
 }
 
 /// Returns whether the disk says just the same of a file as before. It doesn't where either stamp is missing, since a write might not show

@@ -8,7 +8,7 @@ use Rattle.read_command.specs.declared.error.ReadError.{ReadError}
 use Rattle.read_command.specs.declared.error.ReadError.TheVariants as reading
 use Rattle.programs.specs.declared.exit.Exit.{Exit}
 use Rattle.programs.specs.declared.exit.Exit.TheVariants.{NotText, NotAProgram, CommandLine, NotANumber, OutOfRange, Negative, NamesNoFile, NotACoordinate, NoRectangle, NoWindow, NoWorld, NotAFile, NotAnOrigin, OneName, NoClock, Script}
-use Rattle.programs.specs.declared.exit.Exit.TheVariants.{RefusedClient, NotAFileUrl, RefusedUrl, NoFieldLine, NotAField, OfFile, Explained, NoReport, NoConnection, NotUsed, CantRead, CantReadBy, Refused, CantListen, CantListenAt, CantAccept, CantWait, CantWrite, CantWriteFile, Memory, ReaderGone}
+use Rattle.programs.specs.declared.exit.Exit.TheVariants.{RefusedClient, NotAFileUrl, RefusedUrl, NoFieldLine, NotAField, OfFile, Explained, NoReport, NoConnection, NoAnswer, TooFewRequests, NotUsed, CantRead, CantReadBy, Refused, CantListen, CantListenAt, CantAccept, CantWait, CantWrite, CantWriteFile, Memory, ReaderGone}
 
 -- 0 where help or the version is asked for, and 2 where the words aren't the program's
 abbrev pub line_status : ErrorKind → ℕ
@@ -42,6 +42,8 @@ HasStatus (OfFile fault) n = n ≡ 3
 HasStatus (Explained fault) n = n ≡ 3
 HasStatus NoReport n = n ≡ 4
 HasStatus (NoConnection error) n = n ≡ 4
+HasStatus NoAnswer n = n ≡ 4
+HasStatus (TooFewRequests requests) n = n ≡ 4
 HasStatus (NotUsed why) n = n ≡ 4
 HasStatus (Script (script.NotAnEvent line)) n = n ≡ 2
 HasStatus (Script (script.CantRead line)) n = n ≡ 1

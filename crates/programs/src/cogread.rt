@@ -5,6 +5,7 @@ ghost use Rattle.std.specs.Option.{option_copied};
 ghost use Rattle.command_lines.specs.FileUrl.{Names};
 ghost use Rattle.programs.specs.Lines.{IsExplained, IsLineOfPath, IsLineOfUrl, verbosity, words_of_url};
 ghost use Rattle.programs.specs.Number.{IsOfNumber};
+ghost use Rattle.programs.specs.Status.{HasStatus};
 ghost use Rattle.programs.specs.Words.{AsksNothing, HasNoNumber, IsAsked, IsNoPick, IsNoUrl, IsNoWindow, IsOfWords, IsPick, IsWindow, ahead_number, asked_window, blocks_number, requests_number};
 
 use crate::bounds::bounds;
@@ -15,7 +16,7 @@ use crate::local;
 use crate::local::{check_server, is_plain_file, server_of_file, source_of};
 use crate::negative::refused_words;
 use crate::number::{number, number_or, with_range};
-use crate::world_file::world_path;
+use crate::output::write_text;
 use clap::error::ErrorKind;
 use client_sockets::Socket;
 use cog_client::{Client, Pieces, Query};
@@ -23,10 +24,9 @@ use command_lines::{
     AskedWords, FileUrl, FileUrlError, FileWord, LineWithHeaders, ReadLine, WindowWords, file_url,
     file_word, is_url, read_line_with_headers, words_instead,
 };
-use disk_files::replace_file;
 use range_cache::{MAX_CAPACITY, MIN_CAPACITY};
 use read_command::{Area, Asked, Exchanges, Part, ReadError, Text};
-use read_progress::{Noted, NotedNet, Printing, Verbosity};
+use read_progress::{Came, Noted, NotedNet, Printing, Verbosity};
 use std::alloc::{AllocError, Global};
 use std::io;
 use std::net::{Net, TcpStream};
@@ -167,18 +167,19 @@ where
         client.keep_open();
         socket.keep_open();
     }
-    match text_of_source(rt, &net, line, numbers, client, socket, is_url) {
-        Ok(text) => Ok(text),
-        Err(ReadError::NoReport) if is_url => Err(no_report(net.refusal())),
-        Err(error) => Err(Exit::from(error)),
-    }
+    text_of_source(rt, &net, line, numbers, client, socket, is_url)
 }
 
-/// Returns the fault where no report stands after all requests. `refusal` is why the last connection wasn't made, if it wasn't.
-fn no_report(refusal: Option<io::Error>) -> Exit {
-    match refusal {
-        Some(error) => Exit::NoConnection(error),
-        None => Exit::NoReport,
+/// Returns the fault where no report stands after all of `requests` requests to a URL. `came` is what the last one brought. `refusal` is why
+/// the last connection wasn't made, if it wasn't.
+fn no_report(came: &Came, refusal: Option<io::Error>, requests: u32) -> Exit
+    ensures { HasStatus result 4 }
+{
+    match (came, refusal) {
+        (_, Some(error)) => Exit::NoConnection(error),
+        (Came::Unsent | Came::Nothing, None) => Exit::NoAnswer,
+        (Came::NotUsed(why), None) => Exit::NotUsed(*why),
+        (Came::Brought(_, _), None) => Exit::TooFewRequests(requests),
     }
 }
 
@@ -191,7 +192,7 @@ fn text_of_source<'c, R, P: Pieces + Drop>(
     client: &'c mut Client,
     source: P,
     is_url: bool,
-) -> Result<Text<'c>, ReadError>
+) -> Result<Text<'c>, Exit>
 where
     R: Clock + Eprint + AllocGlobal,
 {
@@ -206,47 +207,13 @@ where
         requests: numbers.requests,
         is_url,
     };
-    exchanges.text(client, &mut noted, numbers.asked)
-}
-
-/// Writes a file of the disk whole, or leaves it as it was.
-fn write_file<R>(
-    rt: &R,
-    line: &ReadLine<'_>,
-    path: &str,
-    head: &[u8],
-    rest: &[u8],
-) -> Result<(), Exit>
-where
-    R: Files + Eprint + AllocGlobal,
-{
-    match replace_file(rt, path, head, rest) {
-        Ok(()) => Ok(()),
-        Err(error) if error.kind() == io::ErrorKind::OutOfMemory => Err(Exit::Memory),
-        Err(error) => {
-            if line.verbose {
-                let _ = eprintln!(rt; "cogread: {path} isn't written: {error}");
-            }
-            Err(Exit::CantWriteFile(String::from_str(rt.alloc(), path)?))
+    match exchanges.text(client, &mut noted, numbers.asked) {
+        Ok(text) => Ok(text),
+        Err(ReadError::NoReport) if is_url => {
+            Err(no_report(&noted.came(), net.refusal(), numbers.requests))
         }
+        Err(error) => Err(Exit::from(error)),
     }
-}
-
-/// Writes a text to the line's file, and its world file beside it, or the text to standard output.
-fn write_text<R>(rt: &R, line: &ReadLine<'_>, text: &Text<'_>) -> Result<(), Exit>
-where
-    R: Files + Print + Eprint + AllocGlobal,
-{
-    let Some(path) = line.output else {
-        return Ok(text.write_to(&mut io::writer(rt))?);
-    };
-    write_file(rt, line, path, &text.head, text.samples)?;
-    let Some(world) = text.world else {
-        return Ok(());
-    };
-    let beside = world_path(rt.alloc(), path)?;
-    let lines = format!(in rt.alloc(); "{world}")?;
-    write_file(rt, line, beside.as_str(), lines.as_bytes(), b"")
 }
 
 /// Reads what a line asks for over sockets, with the client of its file, and writes it. With `is_url` a URL names the file.
@@ -416,6 +383,25 @@ fn explained<R: AllocGlobal>(rt: &R, ended: Result<(), Exit>, client: &Client) -
     }
 }
 
+/// Runs the program on words of which the one at `index` is the path of a file of the disk, which stands for a server and a name. With
+/// `is_alone` it stands for `describe`, too.
+fn run_path<R>(rt: &R, words: &[&str], index: usize, is_alone: bool) -> Result<(), Exit>
+where
+    R: Files + Clock + Print + Eprint + AllocGlobal + Net<Stream = TcpStream>,
+    requires { index < length words.now }
+{
+    let described = ["describe", local::SERVER, local::NAME];
+    let instead = if is_alone {
+        &described[..]
+    } else {
+        &described[1..]
+    };
+    let named = words_instead(rt.alloc(), words, index, instead)?;
+    let read = read_words(rt, &named)?;
+    let line = line_of_path(read.line);
+    run_local(rt, &line, &read.headers, words[index])
+}
+
 /// Runs the program on words of which the one at `index` is a URL, or the path of a file of the disk. It stands for a server and a name.
 /// Where it is neither, the words are run as `run_unread` does.
 fn run_single<R>(rt: &R, words: &[&str], index: usize) -> Result<(), Exit>
@@ -427,11 +413,7 @@ where
         return run_url(rt, words, index, false);
     }
     if is_plain_file(rt, words[index]) {
-        let instead = [local::SERVER, local::NAME];
-        let named = words_instead(rt.alloc(), words, index, &instead)?;
-        let read = read_words(rt, &named)?;
-        let line = line_of_path(read.line);
-        return run_local(rt, &line, &read.headers, words[index]);
+        return run_path(rt, words, index, false);
     }
     run_unread(rt, words, words[index])
 }
@@ -464,6 +446,14 @@ where
     run_read(rt, &read.line, &read.headers, numbers, &mut client, false)
 }
 
+/// Returns whether the first word after the program's own name is the path of a plain file, and no command and no option.
+fn begins_with_path<R: Files>(rt: &R, words: &[&str]) -> bool {
+    match words.get(1) {
+        Some(&("window" | "info" | "describe" | "help")) | None => false,
+        Some(word) => !word.starts_with("-") && is_plain_file(rt, word),
+    }
+}
+
 /// Runs the program on its words, of which the first is its own name. Fails with the reason for which the program ends early.
 pub fn run_line<R>(rt: &R, words: &[&str]) -> Result<(), Exit>
 where
@@ -472,6 +462,7 @@ where
     match file_word(rt.alloc(), words)? {
         FileWord::Alone(index) if index < words.len() => run_url(rt, words, index, true),
         FileWord::Single(index) if index < words.len() => run_single(rt, words, index),
+        _ if begins_with_path(rt, words) && words.len() > 1 => run_path(rt, words, 1, true),
         _ => run_named(rt, words),
     }
 }

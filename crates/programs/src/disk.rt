@@ -1,5 +1,5 @@
 //! The files of the disk that a script names.
-use disk_files::read_file;
+use disk_files::{FileError, read_file};
 use scripts::{LoadError, Source};
 use std::io::ErrorKind;
 use std::rt::Files;
@@ -17,7 +17,9 @@ impl<R: Files + AllocGlobal> Source for Disk<'_, R> {
         };
         match read_file(self.rt, path) {
             Ok(bytes) => Ok(bytes),
-            Err(error) if error.kind() == ErrorKind::OutOfMemory => Err(LoadError::Memory),
+            Err(FileError::Io(error)) if error.kind() == ErrorKind::OutOfMemory => {
+                Err(LoadError::Memory)
+            }
             Err(_) => Err(LoadError::CantRead),
         }
     }

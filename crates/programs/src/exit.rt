@@ -73,7 +73,11 @@ pub enum Exit {
     NoReport,
     /// No report stands after all requests to a URL, and the last connection wasn't made, for this reason.
     NoConnection(io::Error),
-    /// The first answer to a URL isn't used for this reason, and no later one is expected to be.
+    /// No report stands after all requests to a URL, and no answer came to the last one.
+    NoAnswer,
+    /// No report stands after this number of requests to a URL, and the last one brought bytes of the file.
+    TooFewRequests(u32),
+    /// An answer to a URL isn't used for this reason. It is the first one, and no later one is expected to be used, or the last one.
     NotUsed(Why),
     /// The address can't be bound.
     CantListen,
@@ -100,6 +104,10 @@ pub enum NotRead {
     Io(io::Error),
     /// It isn't a plain file: a folder, say.
     NotPlain,
+    /// Another program wrote to it while it was read.
+    Written,
+    /// No server takes such a file.
+    Refused(PublishError),
     /// It is a URL of another scheme than http.
     Scheme,
 }
@@ -109,6 +117,8 @@ impl fmt::Display for NotRead {
         match self {
             NotRead::Io(error) => write!(f, "{error}"),
             NotRead::NotPlain => f.write_str("it isn't a plain file"),
+            NotRead::Written => f.write_str("it was written while it was read. Try again"),
+            NotRead::Refused(refusal) => write!(f, "{refusal}"),
             NotRead::Scheme => f.write_str("it isn't a URL of http"),
         }
     }
@@ -149,7 +159,11 @@ impl Exit {
             | Exit::Script(ScriptError::NotAnEvent(_)) => 2,
             Exit::OfFile(_) => 3,
             Exit::Explained(_) => 3,
-            Exit::NoReport | Exit::NoConnection(_) | Exit::NotUsed(_) => 4,
+            Exit::NoReport
+            | Exit::NoConnection(_)
+            | Exit::NoAnswer
+            | Exit::TooFewRequests(_)
+            | Exit::NotUsed(_) => 4,
             Exit::Script(_)
             | Exit::CantRead(_)
             | Exit::CantReadBy(_, _)
@@ -284,11 +298,19 @@ impl fmt::Display for ExitLine<'_> {
             Exit::NoConnection(error) => {
                 write!(f, "{program}: no report: no connection: {error}")
             }
+            Exit::NoAnswer => write!(
+                f,
+                "{program}: no report: no answer came to the last request"
+            ),
+            Exit::TooFewRequests(requests) => write!(
+                f,
+                "{program}: no report after {requests} requests. Give more: --requests N, up to 65536"
+            ),
             Exit::NotUsed(why) => write!(f, "{program}: no report: {}", WhySentence(*why)),
             Exit::CantListen => write!(f, "{program}: can't listen"),
             Exit::CantListenAt(place, error) => write!(
                 f,
-                "{program}: can't listen at {place}: {error}. Give --listen HOST:PORT, as 127.0.0.1:8080"
+                "{program}: can't listen at {place}: {error}. Give --listen HOST:PORT, as 127.0.0.1:0 for any free port"
             ),
             Exit::CantAccept => write!(f, "{program}: can't accept"),
             Exit::CantWait => write!(f, "{program}: can't wait"),

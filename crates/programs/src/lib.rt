@@ -14,6 +14,7 @@ mod local;
 mod negative;
 mod number;
 mod origin;
+mod output;
 mod quick;
 mod stored;
 mod world_file;

@@ -4,7 +4,7 @@ ghost use Rattle.transports.specs.Transports.{rest_of, served_name, served_state
 
 use crate::exit::{Exit, NotRead};
 use cog_server::{PublishError, Server};
-use disk_files::read_file;
+use disk_files::{FileError, read_file};
 use std::alloc::{AllocError, Global};
 use std::rt::Files;
 use std::{fs, io};
@@ -66,8 +66,23 @@ pub fn check_server<R: Files + AllocGlobal>(rt: &R, word: &str) -> Result<(), Ex
 fn refused<R: AllocGlobal>(rt: &R, refusal: PublishError, path: &str) -> Result<Exit, AllocError> {
     match refusal {
         PublishError::Memory => Ok(Exit::Memory),
-        refusal => Ok(Exit::Refused(refusal, String::from_str(rt.alloc(), path)?)),
+        refusal => {
+            let path = String::from_str(rt.alloc(), path)?;
+            Ok(Exit::CantReadBy(path, NotRead::Refused(refusal)))
+        }
     }
+}
+
+/// Returns the fault for a path whose file isn't read.
+fn unread<R: AllocGlobal>(rt: &R, error: FileError, path: &str) -> Result<Exit, AllocError> {
+    let why = match error {
+        FileError::Io(error) if error.kind() == io::ErrorKind::OutOfMemory => {
+            return Ok(Exit::Memory);
+        }
+        FileError::Io(error) => NotRead::Io(error),
+        FileError::Written => NotRead::Written,
+    };
+    Ok(Exit::CantReadBy(String::from_str(rt.alloc(), path)?, why))
 }
 
 /// Makes a server in memory that has the file at a path, as it is now. Fails where the file can't be read or published, or where no memory
@@ -75,11 +90,7 @@ fn refused<R: AllocGlobal>(rt: &R, refusal: PublishError, path: &str) -> Result<
 pub fn server_of_file<R: Files + AllocGlobal>(rt: &R, path: &str) -> Result<Server, Exit> {
     let bytes = match read_file(rt, path) {
         Ok(bytes) => bytes,
-        Err(error) if error.kind() == io::ErrorKind::OutOfMemory => return Err(Exit::Memory),
-        Err(error) => {
-            let path = String::from_str(rt.alloc(), path)?;
-            return Err(Exit::CantReadBy(path, NotRead::Io(error)));
-        }
+        Err(error) => return Err(unread(rt, error, path)?),
     };
     match server_of_one(rt.alloc(), EPOCH, NAME.as_bytes(), bytes) {
         Ok(server) => Ok(server),

@@ -86,7 +86,7 @@ fn listen_reason(error: &ServeFilesError<'_>) -> Option<io::Error> {
 }
 
 /// Returns the value of `outcome`. Where it is an error, which ends the program, logs it and fails with its fault. The fault says why a
-/// file isn't read, and why the server can't listen at `place`.
+/// file isn't read or isn't published, and why the server can't listen at `place`.
 fn with_reason<R: Clock + Eprint + AllocGlobal, T: Drop>(
     log: &AccessLog<'_, R>,
     place: &str,
@@ -103,6 +103,9 @@ fn with_reason<R: Clock + Eprint + AllocGlobal, T: Drop>(
             Some(why) => Err(Exit::CantReadBy(path, why)),
             None => Err(Exit::CantRead(path)),
         },
+        Err(Exit::Refused(refusal, name)) => {
+            Err(Exit::CantReadBy(name, NotRead::Refused(refusal)))
+        }
         Err(Exit::CantListen) => match listened {
             Some(error) => {
                 let place = String::from_str(log.rt.alloc(), place)?;

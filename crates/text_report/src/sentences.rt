@@ -297,6 +297,7 @@ impl ExplainedFault {
                         "Ask for less: --level {number} is the largest that fits whole"
                     )
                 }
+                None if self.levels.len() == 1 => f.write_str("Ask for less, in several windows"),
                 None => write!(f, "{}", self.way()),
             },
             _ => write!(f, "{}", self.way()),
