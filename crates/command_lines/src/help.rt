@@ -9,8 +9,8 @@ Example:
   cogtools cogread http://127.0.0.1:8080/a.tif
   cogtools cogread info 127.0.0.1:8080 a.tif
 
-A URL alone is described. In each command, http://HOST[:PORT]/PATH[?QUERY] or the path of a file of the disk may
-stand for SERVER NAME.
+A URL or the path of a file of the disk is described where it stands alone. In each command,
+http://HOST[:PORT]/PATH[?QUERY] or such a path may stand for SERVER NAME.
 
 A fault of the file is printed as `fault N`, or as `fault N TAG` where it is about one field:
    1  Header       No classic TIFF: the byte order or the number 42 is wrong
@@ -34,7 +34,7 @@ A fault of the file is printed as `fault N`, or as `fault N TAG` where it is abo
 
 Exit status:
   0  The report is written
-  1  Standard output or the file of --output can't be written, or out of memory
+  1  A file can't be read, standard output or the file of --output can't be written, or out of memory
   2  The words aren't those above, a URL names no file of a server, or `refused N`: 1 the server, 2 the name
      Or --bounds meets no pixel, or --bounds or --world stand and the file doesn't say where its pixels lie
   3  A fault of the file
@@ -67,13 +67,6 @@ A FILE's name is the last part of its path, in which bytes that no name has beco
 refused. The URL of each file is printed, in a line of its own, and --announce-last is on. Where --listen, --epoch and
 --connections all stand, none of this holds: each file is NAME=PATH.
 
-A file that isn't published is printed as `refused N NAME`:
-  1  The name has other bytes than A-Z a-z 0-9 . _ - / or not 1 to 200 of them
-  2  The file is empty
-  3  The file has more than 67108864 bytes
-  4  There are 64 names already
-  5  The epoch's 4294967295 publications are used up
-
 Exit status:
   0  All connections are served
   1  A file can't be read or is refused, can't listen, accept or write, no clock, or out of memory
@@ -82,7 +75,7 @@ Exit status:
 /// The text that `cogworld --help` prints after its options.
 pub const WORLD_NOTES: &str = "\
 Example:
-  cogtools cogworld law_one_window.txt
+  cogtools cogworld late.txt
 
 Exit status:
   0  The log is written

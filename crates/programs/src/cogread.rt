@@ -170,8 +170,8 @@ where
     text_of_source(rt, &net, line, numbers, client, socket, is_url)
 }
 
-/// Returns the fault where no report stands after all of `requests` requests to a URL. `came` is what the last one brought. `refusal` is why
-/// the last connection wasn't made, if it wasn't.
+/// Returns the fault where no report stands after all of `requests` requests to a URL. `came` is what the last one brought. `refusal` is
+/// why the last connection wasn't made, if it wasn't.
 fn no_report(came: &Came, refusal: Option<io::Error>, requests: u32) -> Exit
     ensures { HasStatus result 4 }
 {

@@ -93,6 +93,7 @@ fn help(alloc: Global, name: &str) -> Result<String, AllocError> {
         "\
 Usage: {name} cogserve FILE..
        {name} cogread http://HOST[:PORT]/PATH[?QUERY]
+       {name} cogread FILE
        {name} cogserve --listen HOST:PORT --epoch N --connections N [--at-once N] [--patience SECONDS] [--log] NAME=PATH..
        {name} cogserve .. [--allow-origin ORIGIN] [--announce-last] [--verify SECONDS] ..
        {name} cogread window SERVER NAME X Y W H [--level N | --columns C] [--requests N] [--blocks N] [--ahead N] [--keep]

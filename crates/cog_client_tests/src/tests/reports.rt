@@ -61,6 +61,26 @@ const INFO: [(Fixture, (usize, &[u8]), Want<'static>); 4] = [
     ),
 ];
 
+/// Bytes that are put at a place of f1, and the fault of the window of its first pixel.
+const FAULTS_OF_F1: [(usize, &[u8], FileFault); 16] = [
+    (0, b"IM", FileFault::Header),
+    (2, &[43], FileFault::Header),
+    (4, &[9, 0, 0, 0], FileFault::DirPlace),
+    (118, &[7, 0, 0, 0], FileFault::DirPlace),
+    (118, &[0xfe, 0xff, 0xff, 0xff], FileFault::PastEnd),
+    (8, &[0xff, 0xff], FileFault::DirCount),
+    (22, &[0x00, 0x01], FileFault::TagOrder),
+    (36, &[4], FileFault::FieldType(258)),
+    (18, &[0], FileFault::LevelShape),
+    (54, &[5], FileFault::Unsupported(259)),
+    (78, &[0], FileFault::TileSize),
+    (98, &[0xff, 0xff, 0xff, 0xff], FileFault::TileArray),
+    (102, &[0xff, 0xff, 0xff, 0xff], FileFault::PastEnd),
+    (114, &[0xff, 0x00], FileFault::TileSize),
+    (114, &[0x00, 0x00], FileFault::TileSize),
+    (118, &[8, 0, 0, 0], FileFault::TooManyDirs),
+];
+
 /// Expects the outcome of a query of a changed file. Those of more than a block are passed over.
 fn expect_report(
     rt: &(impl Abort + AllocGlobal),
@@ -90,6 +110,15 @@ fn reports_windows_of_one_answer(rt: HostRuntime) -> Result<(), Fail> {
 fn reports_windows_of_changed_files(rt: HostRuntime) -> Result<(), Fail> {
     for (fixture, changed, numbers, want) in CHANGED {
         expect_report(&rt, fixture, changed, window(numbers), want)?;
+    }
+    Ok(())
+}
+
+#[test]
+fn reports_the_fault_of_a_file_that_lies(rt: HostRuntime) -> Result<(), Fail> {
+    for (place, bytes, fault) in FAULTS_OF_F1 {
+        let query = of_level(0, 0, 1, 1, 0);
+        expect_report(&rt, Fixture::F1, (place, bytes), query, Want::Fault(fault))?;
     }
     Ok(())
 }

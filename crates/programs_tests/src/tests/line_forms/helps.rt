@@ -46,6 +46,7 @@ const HELPS: [(&str, &[&str]); 10] = [
     ("--help", &[
         "Usage: cogtools cogserve FILE..\n",
         "cogtools cogread http://HOST[:PORT]/PATH[?QUERY]\n",
+        "cogtools cogread FILE\n",
         "cogtools cogserve .. [--allow-origin ORIGIN] [--announce-last] [--verify SECONDS] ..\n",
         "cogtools cogread .. FILE ..\n",
         "cogtools cogserve --listen HOST:PORT --epoch N --connections N [--at-once N] [--patience SECONDS] [--log] NAME=PATH..\n",
@@ -119,7 +120,7 @@ const HELPS: [(&str, &[&str]); 10] = [
         "SCRIPT",
         "(no default)",
         "1 to 1069056 (default: whole)",
-        "Example:\n  cogtools cogworld law_one_window.txt\n",
+        "Example:\n  cogtools cogworld late.txt\n",
     ]),
 ];
 
