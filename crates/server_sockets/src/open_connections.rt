@@ -329,6 +329,7 @@ impl OpenConnections {
         ensures rests { result ≡ Waits → RestsAt now number self.new.connections.table.entries
             ⊎ ((DrainsAt number self.old × ¬ IsDrainedAt number self.new.connections.table.entries)
             ⊎ (timed_at number self.new.connections.table.entries ≡ None)) }
+        ensures drains { DrainsAt number self.old → DrainsAt number self.new }
         ensures counted { self.new.ended ≡ self.old.ended }
         ensures taken { ¬ IsReadyAt number self.new }
     {

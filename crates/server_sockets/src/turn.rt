@@ -108,7 +108,8 @@ fn step<A: AnswerLog>(
     ensures blocks { IfErr result (λ error. error_kind error ≢ OutOfMemory
         → IsOpenAt socket.now.number connections.old.table.entries × IsOpenAt socket.now.number connections.new.table.entries) }
     // Where its socket blocks, or fails, it was tried to write what waits, or no whole message is left to be answered.
-    ensures rests { IfErr result (λ error. error_kind error ≢ OutOfMemory → RestsAt bounds.now socket.now.number connections.new.table.entries) }
+    ensures rests { IfErr result (λ error. error_kind error ≢ OutOfMemory
+        → RestsAt bounds.now socket.now.number connections.new.table.entries) }
     ensures unanswered { log.new.unanswered.ghost_name ≡ log.old.unanswered.ghost_name }
 {
     let Bounds { most, now } = bounds;
