@@ -1,3 +1,4 @@
 pub mod Lines
 pub mod Publishing
 pub mod Refused
+pub mod Rounds

@@ -1,10 +1,11 @@
 //! Serving: round by round, as connections come and are ready.
-ghost use Rattle.std.specs.Prelude.{◌≡◌, ◌≤◌, ℕ, [], IfErr, OnOk, max};
+ghost use Rattle.std.specs.Prelude.{◌≡◌, ◌⊎◌, ℕ, IfErr, IsErrAnd, OnOk, max};
 ghost use Rattle.cog_server.specs.Service.{added_of};
 ghost use Rattle.server_files.specs.Publishing.{ArePublishedAgain, ArePublishedAnew, KeepsOthersThan, names, settings};
 ghost use Rattle.server_files.specs.Refused.{IsOfSockets};
+ghost use Rattle.server_files.specs.Rounds.{IsOfListening, IsOver, KeepsLimits, ServedWithin, WentRound};
 ghost use Rattle.server_sockets.specs.Going.{AllWentOnOrStart};
-ghost use Rattle.server_sockets.specs.Slots.{accepted_of, limits_of, slots_of};
+ghost use Rattle.server_sockets.specs.Slots.{accepted_of, slots_of};
 
 use crate::access_log::AccessLog;
 use crate::clock::moment;
@@ -63,7 +64,7 @@ fn print_served<R: Print>(rt: &R, printed: u32, ended: u32) -> u32
 
 /// Serves each connection that is ready, accepts new ones, and looks at the files where one came. Serves first, so that each connection
 /// that the last wait reported has its turn before an idle one is closed.
-#[tactic(auto, using(crate::proofs::RoundLemmas::went_or_started, crate::proofs::PublishingLemmas::stays_anew))]
+#[tactic(auto, using(crate::proofs::RoundLemmas::went_or_started, crate::proofs::RoundLemmas::limits_kept, crate::proofs::PublishingLemmas::stays_anew))]
 fn round<R: Files + Clock + Print + Eprint + AllocGlobal>(
     log: &mut AccessLog<'_, R>,
     server: &mut Server,
@@ -75,7 +76,7 @@ fn round<R: Files + Clock + Print + Eprint + AllocGlobal>(
     // before, with what is added.
     ensures went { (now : ℕ) × AllWentOnOrStart (record { catalogue = server.old.catalogue; added = added_of additions.entry }) now
         (slots_of serving.old) (slots_of serving.new) }
-    ensures limits { limits_of serving.new ≡ limits_of serving.old }
+    ensures limits { KeepsLimits serving.old serving.new }
     // Files are published anew in their order, each with other bytes than before, and none where no connection was accepted.
     ensures anew { ArePublishedAnew R.File.remaining (names files.old) server.old server.new }
     ensures idle { accepted_of serving.new ≡ accepted_of serving.old → server.new ≡ server.old }
@@ -104,8 +105,10 @@ fn serve_rounds<R>(
 ) -> Result<(), ServeFilesError<'static>>
 where
     R: Files + Clock + Print + Eprint + AllocGlobal,
-    ensures over { OnOk result (((limits_of serving.new).connections ≤ accepted_of serving.new) × (slots_of serving.new ≡ [])) }
-    ensures limits { limits_of serving.new ≡ limits_of serving.old }
+    ensures over { OnOk result (IsOver serving.new) }
+    // Round follows round, each with these additions. Between two of them no connection changes.
+    ensures went { WentRound R.File.remaining (names files.old) (added_of additions.entry) server.old serving.old server.new serving.new }
+    ensures limits { KeepsLimits serving.old serving.new }
     // What is published meanwhile is published as files are looked at, once after the other.
     ensures anew { ArePublishedAgain R.File.remaining (names files.old) server.old server.new }
     ensures others { KeepsOthersThan (names files.old) server.old server.new }
@@ -140,6 +143,9 @@ pub fn serve_connections<R>(
 ) -> Result<(), ServeFilesError<'static>>
 where
     R: Files + Clock + Print + Eprint + AllocGlobal + Net,
+    // A new server with these limits serves round after round, each with these additions. Or the address can't be listened at.
+    ensures went { (IsErrAnd result IsOfListening × (server.new ≡ server.old))
+        ⊎ ServedWithin R.File.remaining (names files.old) (added_of additions.entry) limits server.old server.new result }
     // What is published meanwhile is published as files are looked at, once after the other.
     ensures anew { ArePublishedAgain R.File.remaining (names files.old) server.old server.new }
     ensures others { KeepsOthersThan (names files.old) server.old server.new }

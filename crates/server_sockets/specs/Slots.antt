@@ -7,7 +7,8 @@ use Rattle.mio.specs.Events.{items}
 use Rattle.server_connections.specs.declared.timed.Timed.{Timed}
 use Rattle.server_connections.specs.Table.{Table, timed_at}
 use Rattle.server_connections.specs.Yielding.{MayYield, TriesAt, WakesAt, Yields}
-use Rattle.server_sockets.specs.Turns.{HasStartedAt}
+use Rattle.server_sockets.specs.Draining.{DrainsAt}
+use Rattle.server_sockets.specs.Turns.{HasStartedAt, RestsAt}
 use Rattle.server_sockets.specs.Waits.{IsQueued, sockets_of}
 use Rattle.server_sockets.specs.declared.drain.Drain.{Drain}
 use Rattle.server_sockets.specs.declared.events.TheConstants.{LISTENER}
@@ -45,6 +46,11 @@ ready_of s = s.ready.items
 -- the connections that drain, each with the moment at which its drain ends
 abbrev pub drains_of : Serving → List Drain
 drains_of s = s.drains.items
+
+-- connection k can't go on at this moment, is queued for its turn, drains, or has no slot
+abbrev pub IsServedAt : ℕ → ℕ → Serving → Type 0
+IsServedAt now k s =
+    RestsAt now k (slots_of s) ⊎ (Contains (ready_of s) k ⊎ (DrainsAt k s.open_connections ⊎ (timed_at k (slots_of s) ≡ None)))
 
 -- the number of the next one that gets a slot
 abbrev pub next_of : Serving → ℕ

@@ -1,10 +1,12 @@
 -- What a connection's turn does, and when it comes to an end.
-use Rattle.std.specs.Prelude.{◌≡◌, ℕ, nat_eq, IfSome, IsSomeAnd, IsTrue, Option, None, Some, is_some}
+use Rattle.std.specs.Prelude.{◌≡◌, ◌≢◌, ◌⊎◌, ℕ, [], nat_eq, IfSome, IsSomeAnd, IsTrue, Option, None, Some, is_some}
 use Rattle.std.specs.HashMap.{HashMap, get}
 use Rattle.std.specs.Map.{remove_entry}
+use Rattle.http_range.specs.Stream.{IsUnfinished}
 use Rattle.cog_server.specs.Status.{EndsBy, is_drained, start}
 use Rattle.cog_server.specs.declared.served.Ended.{Ended}
 use Rattle.server_connections.specs.declared.table.Connections.{Connections}
+use Rattle.server_connections.specs.declared.timed.Timed.{Timed}
 use Rattle.server_connections.specs.Table.{Table, OthersStay, timed_at}
 use Rattle.server_connections.specs.Yielding.{IsUntried, Yields}
 
@@ -34,6 +36,15 @@ IsDrainedAt k table = IfSome (timed_at k table) (λ p. IsTrue (is_drained p.conn
 -- at this moment it was tried to write to connection k, if there is one
 abbrev pub IsTriedAt : ℕ → ℕ → Table → Type 0
 IsTriedAt now k table = IfSome (timed_at k table) (λ p. p.tried ≡ now)
+
+-- Bytes wait to be written, and the socket was tried at this moment. Or none wait, and no whole message is left to be answered.
+abbrev pub IsAtRest : ℕ → Timed → Type 0
+IsAtRest now p =
+    ((p.connection.waiting ≢ []) × (p.tried ≡ now)) ⊎ ((p.connection.waiting ≡ []) × IsUnfinished p.connection.held)
+
+-- there is a connection k, and it is so
+abbrev pub RestsAt : ℕ → ℕ → Table → Type 0
+RestsAt now k table = IsSomeAnd (timed_at k table) (IsAtRest now)
 
 -- of those whose socket is to be tried at this moment, the one that was tried the longest ago is tried, or has lost its slot
 abbrev pub TriesOne : ℕ → ℕ → Table → Table → Type 0

@@ -8,7 +8,7 @@ ghost use Rattle.server_connections.specs.Table.{OthersStay, timed_at};
 ghost use Rattle.server_connections.specs.declared.timed.Timed.{Timed};
 ghost use Rattle.server_connections.specs.Yielding.{FreesAt, IsFirstOverdue, IsUntried, MayYield, TriesAt, WakesAt, Yields, is_overdue};
 ghost use Rattle.server_sockets.specs.Going.{AllWentOn};
-ghost use Rattle.server_sockets.specs.Turns.{HasEndedAt, HasStartedAt, HaveSockets, IsDrainedAt, IsOpenAt, IsTriedAt, KeepsSlots};
+ghost use Rattle.server_sockets.specs.Turns.{HasEndedAt, HasStartedAt, HaveSockets, IsDrainedAt, IsOpenAt, IsTriedAt, KeepsSlots, RestsAt};
 ghost use Rattle.server_sockets.specs.declared.turn.Turn.TheVariants.{Ended, GoesOn, Waits};
 
 use crate::answer_log::{AnswerLog, ConnectionLog, UnansweredInput};
@@ -325,6 +325,11 @@ impl OpenConnections {
         ensures waits { result ≡ Waits → IsOpenAt number self.new.connections.table.entries
             ⊎ ((DrainsAt number self.old × ¬ IsDrainedAt number self.new.connections.table.entries)
             ⊎ (timed_at number self.new.connections.table.entries ≡ None)) }
+        // One that waits and doesn't drain can't go on: it was tried to write what waits, or no whole message is left to be answered.
+        ensures rests { result ≡ Waits → RestsAt now number self.new.connections.table.entries
+            ⊎ ((DrainsAt number self.old × ¬ IsDrainedAt number self.new.connections.table.entries)
+            ⊎ (timed_at number self.new.connections.table.entries ≡ None)) }
+        ensures drains { DrainsAt number self.old → DrainsAt number self.new }
         ensures counted { self.new.ended ≡ self.old.ended }
         ensures taken { ¬ IsReadyAt number self.new }
     {

@@ -78,7 +78,7 @@ pub struct Serving {
 
 impl Serving {
     ghost use Rattle.server_sockets.specs.Closings.{BeginsWith, ClosesOnly, DrainsOnly};
-    ghost use Rattle.server_sockets.specs.Slots.{AllStart, HasNoSlot, KeepsAll, KeepsBacklog, KeepsBusy, KeepsFreeing, KeepsTurns, MayKeepOld, NoneChanges, NobodyComes, NobodyYields, Rests, StayOrStart, accepted_of, drains_of, ended_of, frees_of, limits_of, next_of, publications_of, ready_of, slots_of, slot_count};
+    ghost use Rattle.server_sockets.specs.Slots.{AllStart, HasNoSlot, IsServedAt, KeepsAll, KeepsBacklog, KeepsBusy, KeepsFreeing, KeepsTurns, MayKeepOld, NoneChanges, NobodyComes, NobodyYields, Rests, StayOrStart, accepted_of, drains_of, ended_of, frees_of, limits_of, next_of, publications_of, ready_of, slots_of, slot_count};
 
     /// Starts to listen with `listener`, without a connection.
     pub fn new<R: Net + AllocGlobal>(
@@ -418,6 +418,8 @@ impl Serving {
         ensures others { OthersStay number (slots_of self.old) (slots_of self.new) }
         ensures nobody { NobodyComes self.old self.new }
         ensures went { AllWentOn (service_of service.now) now (slots_of self.old) (slots_of self.new) }
+        // Afterwards it can't go on, is queued for another turn, drains, or has no slot.
+        ensures served { IsServedAt now number self.new }
         ensures queue { BeginsWith (ready_of self.new) (ready_of self.old) }
         ensures drains_only { DrainsOnly (λ k. k ≡ number) (drains_of self.old) (drains_of self.new) }
         ensures backlog { KeepsBacklog self.old self.new }

@@ -6,7 +6,7 @@ ghost use Rattle.server_connections.specs.Table.{timed_at};
 ghost use Rattle.cog_server.specs.Additions.{ServiceState};
 ghost use Rattle.std.specs.declared.io.ErrorKind.TheVariants.{Interrupted, OutOfMemory, WouldBlock};
 ghost use Rattle.server_sockets.specs.Going.{AllWentOn};
-ghost use Rattle.server_sockets.specs.Turns.{HasEndedAt, IsDrainedAt, IsOpenAt, IsTriedAt, KeepsSlots};
+ghost use Rattle.server_sockets.specs.Turns.{HasEndedAt, IsDrainedAt, IsOpenAt, IsTriedAt, KeepsSlots, RestsAt};
 ghost use Rattle.server_sockets.specs.declared.turn.Turn.TheVariants.{Ended, GoesOn, Waits};
 
 use crate::answer_log::{AnswerLog, ConnectionLog};
@@ -107,6 +107,9 @@ fn step<A: AnswerLog>(
     ensures open { IfOk result (λ count. IsSome count → IsOpenAt socket.now.number connections.old.table.entries) }
     ensures blocks { IfErr result (λ error. error_kind error ≢ OutOfMemory
         → IsOpenAt socket.now.number connections.old.table.entries × IsOpenAt socket.now.number connections.new.table.entries) }
+    // Where its socket blocks, or fails, it was tried to write what waits, or no whole message is left to be answered.
+    ensures rests { IfErr result (λ error. error_kind error ≢ OutOfMemory
+        → RestsAt bounds.now socket.now.number connections.new.table.entries) }
     ensures unanswered { log.new.unanswered.ghost_name ≡ log.old.unanswered.ghost_name }
 {
     let Bounds { most, now } = bounds;
@@ -145,6 +148,8 @@ pub fn serve_turn<A: AnswerLog>(
         × IsOpenAt socket.now.number connections.new.table.entries }
     ensures waits { result ≡ Waits → IsOpenAt socket.now.number connections.old.table.entries
         × IsOpenAt socket.now.number connections.new.table.entries }
+    // One that waits can't go on: it was tried to write what waits on it, or no whole message is left to be answered.
+    ensures rests { result ≡ Waits → RestsAt now socket.now.number connections.new.table.entries }
     ensures unanswered { log.new.unanswered.ghost_name ≡ log.old.unanswered.ghost_name }
 {
     let mut most = WRITE_LIMIT;

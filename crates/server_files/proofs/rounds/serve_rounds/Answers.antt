@@ -1,6 +1,9 @@
 use Rattle.std.proofs.Common.{◌∙◌, refl}
+use Rattle.cog_server.specs.Service.{added_of}
 use Rattle.server_files.specs.Publishing.{names, never}
+use Rattle.server_files.specs.Rounds.{begun}
 use Rattle.server_files.proofs.PublishingLemmas.{again_on, others_on}
+use Rattle.server_files.proofs.RoundLemmas.{kept_on, nobody_keeps, round_on, wait_on}
 use Rattle.server_files.proofs.rounds.serve_rounds.Goals as goal
 
 pub returns-in_err-round-clause-others : goal.returns-in_err-round-clause-others
@@ -17,7 +20,8 @@ pub loop-init : goal.loop-init
 loop-init g c = record {
   same = refl;
   settings = refl;
-  limits = refl;
+  limits = record { limits = refl; room = refl; few = λ within. within };
+  went = begun;
   anew = never;
   others = λ other none. refl;
 }
@@ -41,8 +45,37 @@ pub loop-preserved : goal.loop-preserved
 loop-preserved g c = record {
   same = c.round.ensures.names ∙ c.loop.invariant.same;
   settings = c.round.ensures.settings ∙ c.loop.invariant.settings;
-  limits = c.wait.ensures.nobody.limits ∙ c.round.ensures.limits ∙ c.loop.invariant.limits;
+  limits = kept_on c.args.serving.now c.round.new.serving c.wait.new.self
+      (kept_on c.args.serving.now c.loop.serving c.round.new.serving c.loop.invariant.limits c.round.ensures.limits)
+      (nobody_keeps c.round.new.serving c.wait.new.self c.wait.ensures.nobody);
+  went = wait_on g.R.File.Read.remaining (names c.args.files.now) (added_of c.args.additions) c.args.server.now c.round.new.server c.args.serving.now
+      c.round.new.serving c.wait.new.self
+      (round_on g.R.File.Read.remaining (names c.args.files.now) (names c.loop.files) (added_of c.args.additions) c.args.server.now c.loop.server
+      c.round.new.server c.args.serving.now c.loop.serving c.round.new.serving c.loop.invariant.same c.loop.invariant.went c.round.ensures.went
+      c.round.ensures.anew c.round.ensures.idle c.round.ensures.limits)
+      c.wait.ensures.same c.wait.ensures.nobody;
   anew = again_on g.R.File.Read.remaining (names c.args.files.now) (names c.loop.files) c.args.server.now c.loop.server c.round.new.server c.loop.invariant.same
       c.loop.invariant.anew c.round.ensures.anew;
   others = others_on (names c.args.files.now) (names c.loop.files) c.args.server.now c.loop.server c.round.new.server c.loop.invariant.same c.loop.invariant.others c.round.ensures.others;
 }
+
+pub returns-then-is_over-clause-went : goal.returns-then-is_over-clause-went
+returns-then-is_over-clause-went g c =
+    round_on g.R.File.Read.remaining (names c.args.files.now) (names c.loop.files) (added_of c.args.additions) c.args.server.now c.loop.server
+    c.round.new.server c.args.serving.now c.loop.serving c.round.new.serving c.loop.invariant.same c.loop.invariant.went c.round.ensures.went
+    c.round.ensures.anew c.round.ensures.idle c.round.ensures.limits
+
+pub returns-in_err-round-clause-went : goal.returns-in_err-round-clause-went
+returns-in_err-round-clause-went g c =
+    round_on g.R.File.Read.remaining (names c.args.files.now) (names c.loop.files) (added_of c.args.additions) c.args.server.now c.loop.server
+    c.round.new.server c.args.serving.now c.loop.serving c.round.new.serving c.loop.invariant.same c.loop.invariant.went c.round.ensures.went
+    c.round.ensures.anew c.round.ensures.idle c.round.ensures.limits
+
+pub returns-in-Err-clause-went : goal.returns-in-Err-clause-went
+returns-in-Err-clause-went g c =
+    wait_on g.R.File.Read.remaining (names c.args.files.now) (added_of c.args.additions) c.args.server.now c.round.new.server c.args.serving.now
+    c.round.new.serving c.wait.new.self
+    (round_on g.R.File.Read.remaining (names c.args.files.now) (names c.loop.files) (added_of c.args.additions) c.args.server.now c.loop.server
+    c.round.new.server c.args.serving.now c.loop.serving c.round.new.serving c.loop.invariant.same c.loop.invariant.went c.round.ensures.went
+    c.round.ensures.anew c.round.ensures.idle c.round.ensures.limits)
+    c.wait.ensures.same c.wait.ensures.nobody

@@ -3,14 +3,15 @@ use Rattle.cog_server.specs.Additions.{ServiceState}
 use Rattle.cog_server.specs.Service.{service_of}
 use Rattle.server_connections.specs.Table.{timed_at}
 use Rattle.server_sockets.specs.declared.serving.Serving.{Serving}
-use Rattle.server_sockets.specs.Closings.{IsOverdueAt, TriesAlone}
+use Rattle.server_sockets.specs.Closings.{ChangesOnly, ClosesOnly, IsOverdueAt, TriesAlone}
 use Rattle.server_sockets.specs.Going.{AllWentOn}
-use Rattle.server_sockets.specs.Slots.{KeepsBacklog, KeepsFreeing, NobodyComes, accepted_of, ended_of, frees_of, limits_of, publications_of, ready_of, slots_of, slot_count}
+use Rattle.server_sockets.specs.Slots.{KeepsBacklog, KeepsFreeing, NobodyComes, NoneChanges, accepted_of, ended_of, frees_of, limits_of, publications_of, ready_of, slots_of, slot_count}
 use Rattle.server_sockets.proofs.ClosingLemmas.{Turned, changes_none, closing, queue_has_next, tries_none, turned_more}
 use Rattle.server_sockets.proofs.GoingLemmas.{all_on, all_still}
 use Rattle.server_sockets.proofs.SlotLemmas.{went_still}
+use Rattle.server_sockets.proofs.serving.Serving.turns.Given as given
 use Rattle.server_sockets.proofs.serving.Serving.turns.Goals as goal
-use Rattle.server_sockets.proofs.serving.Serving.turns.Goals.{then-is_due, else-is_due, in-Some, in_default}
+use Rattle.server_sockets.proofs.serving.Serving.turns.Goals.{After-end_drains, then-is_due, else-is_due, in-Some, in_default}
 
 -- what became of the connections where a socket was tried, or none was
 abbrev Tries : ServiceState → ℕ → Serving → Serving → Type 0
@@ -83,70 +84,57 @@ loop-preserved g c =
       drains = turned.drains;
     }
 
+-- what became of the connections after turns, where a socket was tried, or none was
+tried_then : (g : given.Over) (c : goal.After-end_drains g) → Tries (service_of c.args.service.now) c.args.now c.loop.self c.if-is_due.self
+tried_then g c =
+    let tries = Tries (service_of c.args.service.now) c.args.now c.loop.self in
+    elim c.if-is_due.branch [
+      | then-is_due w ↦ subst tries (sym w.self-is)
+          (w.try_socket.ensures.alone, w.try_socket.ensures.went (service_of c.args.service.now), w.try_socket.ensures.nobody.limits)
+      | else-is_due w ↦ subst tries (sym w.self-is) (not_tried (service_of c.args.service.now) c.args.now c.loop.self)
+    ]
+
+-- how they went on from there until drains had ended
+drained_then : (g : given.Over) (c : goal.After-end_drains g)
+    → AllWentOn (service_of c.args.service.now) c.args.now (slots_of c.loop.self) (slots_of c.end_drains.new.self)
+drained_then g c =
+    went_still (service_of c.args.service.now) c.args.now c.loop.self c.if-is_due.self c.end_drains.new.self (tried_then g c).1 c.end_drains.ensures.same
+
+-- how they went on from the start, where some are closed at last, and why
+went_then : (g : given.Over) (c : goal.After-end_drains g) (last : Serving) → NoneChanges c.end_drains.new.self last
+    → AllWentOn (service_of c.args.service.now) c.args.now (slots_of c.args.self.now) (slots_of last)
+went_then g c last same =
+    let service = service_of c.args.service.now in
+    all_on service c.args.now (slots_of c.args.self.now) (slots_of c.loop.self) (slots_of last) c.loop.invariant.went
+    (went_still service c.args.now c.loop.self c.end_drains.new.self last (drained_then g c) same)
+
+closed_then : (g : given.Over) (c : goal.After-end_drains g) (last : Serving) → NoneChanges c.end_drains.new.self last
+    → ChangesOnly (IsOverdueAt (service_of c.args.service.now).catalogue c.args.now (limits_of c.end_drains.new.self).patience
+    (slots_of c.end_drains.new.self)) (slots_of c.end_drains.new.self) (slots_of last)
+    → ClosesOnly (service_of c.args.service.now) c.args.now c.args.self.now last
+closed_then g c last same freed =
+    let service = service_of c.args.service.now in
+    let is = c.loop.invariant in
+    let tries = tried_then g c in
+    closing service c.args.now c.args.self.now c.loop.self c.if-is_due.self c.end_drains.new.self last is.nobody.limits is.queued is.drains tries.0
+    c.end_drains.ensures.closes (c.end_drains.ensures.nobody.limits ∙ tries.2 ∙ is.nobody.limits) freed is.went
+    (went_still service c.args.now c.loop.self c.end_drains.new.self last (drained_then g c) same)
+
 pub returns-else-may_keep_old-clause-went : goal.returns-else-may_keep_old-clause-went
 returns-else-may_keep_old-clause-went g c =
-    let service = service_of c.args.service.now in
-    let now = c.args.now in
-    let before = slots_of c.args.self.now in
-    let tried : AllWentOn service now before (slots_of c.if-is_due.self) =
-    elim c.if-is_due.branch [
-      | then-is_due w ↦ subst (λ (s : Serving). AllWentOn service now before (slots_of s)) (sym w.self-is)
-          (all_on service now before (slots_of c.loop.self) (slots_of w.try_socket.new.self) c.loop.invariant.went (w.try_socket.ensures.went service))
-      | else-is_due w ↦ subst (λ (s : Serving). AllWentOn service now before (slots_of s)) (sym w.self-is) c.loop.invariant.went
-    ] in
-    went_still service now c.args.self.now c.if-is_due.self c.end_drains.new.self tried c.end_drains.ensures.same
+    went_then g (goal.at.returns-else-may_keep_old-clause-went g c).After-end_drains c.end_drains.new.self (λ k p there. there)
 
 pub returns-then-may_keep_old-clause-went : goal.returns-then-may_keep_old-clause-went
 returns-then-may_keep_old-clause-went g c =
-    let service = service_of c.args.service.now in
-    let now = c.args.now in
-    let before = slots_of c.args.self.now in
-    let tried : AllWentOn service now before (slots_of c.if-is_due.self) =
-    elim c.if-is_due.branch [
-      | then-is_due w ↦ subst (λ (s : Serving). AllWentOn service now before (slots_of s)) (sym w.self-is)
-          (all_on service now before (slots_of c.loop.self) (slots_of w.try_socket.new.self) c.loop.invariant.went (w.try_socket.ensures.went service))
-      | else-is_due w ↦ subst (λ (s : Serving). AllWentOn service now before (slots_of s)) (sym w.self-is) c.loop.invariant.went
-    ] in
-    let drained = went_still service now c.args.self.now c.if-is_due.self c.end_drains.new.self tried c.end_drains.ensures.same in
-    went_still service now c.args.self.now c.end_drains.new.self c.free_old_files.new.self drained c.free_old_files.ensures.same
+    went_then g (goal.at.returns-then-may_keep_old-clause-went g c).After-end_drains c.free_old_files.new.self c.free_old_files.ensures.same
 
 pub returns-else-may_keep_old-clause-closes : goal.returns-else-may_keep_old-clause-closes
 returns-else-may_keep_old-clause-closes g c =
-    let service = service_of c.args.service.now in
-    let now = c.args.now in
-    let first = c.args.self.now in
-    let turned = c.loop.self in
-    let tried = c.if-is_due.self in
     let drained = c.end_drains.new.self in
-    let is = c.loop.invariant in
-    let tries : Tries service now turned tried =
-    elim c.if-is_due.branch [
-      | then-is_due w ↦ subst (Tries service now turned) (sym w.self-is)
-          (w.try_socket.ensures.alone, w.try_socket.ensures.went service, w.try_socket.ensures.nobody.limits)
-      | else-is_due w ↦ subst (Tries service now turned) (sym w.self-is) (not_tried service now turned)
-    ] in
-    let goes_on = went_still service now turned tried drained tries.1 c.end_drains.ensures.same in
-    closing service now first turned tried drained drained is.nobody.limits is.queued is.drains tries.0 c.end_drains.ensures.closes
-    (c.end_drains.ensures.nobody.limits ∙ tries.2 ∙ is.nobody.limits)
-    (changes_none (IsOverdueAt service.catalogue now (limits_of drained).patience (slots_of drained)) (slots_of drained))
-    is.went goes_on
+    closed_then g (goal.at.returns-else-may_keep_old-clause-closes g c).After-end_drains drained (λ k p there. there)
+    (changes_none (IsOverdueAt (service_of c.args.service.now).catalogue c.args.now (limits_of drained).patience (slots_of drained)) (slots_of drained))
 
 pub returns-then-may_keep_old-clause-closes : goal.returns-then-may_keep_old-clause-closes
 returns-then-may_keep_old-clause-closes g c =
-    let service = service_of c.args.service.now in
-    let now = c.args.now in
-    let first = c.args.self.now in
-    let turned = c.loop.self in
-    let tried = c.if-is_due.self in
-    let drained = c.end_drains.new.self in
-    let is = c.loop.invariant in
-    let tries : Tries service now turned tried =
-    elim c.if-is_due.branch [
-      | then-is_due w ↦ subst (Tries service now turned) (sym w.self-is)
-          (w.try_socket.ensures.alone, w.try_socket.ensures.went service, w.try_socket.ensures.nobody.limits)
-      | else-is_due w ↦ subst (Tries service now turned) (sym w.self-is) (not_tried service now turned)
-    ] in
-    let goes_on = went_still service now turned tried drained tries.1 c.end_drains.ensures.same in
-    closing service now first turned tried drained c.free_old_files.new.self is.nobody.limits is.queued is.drains tries.0 c.end_drains.ensures.closes
-    (c.end_drains.ensures.nobody.limits ∙ tries.2 ∙ is.nobody.limits) c.free_old_files.ensures.closes
-    is.went (went_still service now turned drained c.free_old_files.new.self goes_on c.free_old_files.ensures.same)
+    closed_then g (goal.at.returns-then-may_keep_old-clause-closes g c).After-end_drains c.free_old_files.new.self c.free_old_files.ensures.same
+    c.free_old_files.ensures.closes

@@ -1,0 +1,62 @@
+-- How connections are served round by round.
+use Rattle.std.specs.Prelude.{◌≡◌, ◌≤◌, ℕ, [], List, Option, Result, OnOk, ⊤}
+use Rattle.std.specs.NonZero.{non_zero_usize_get}
+use Rattle.cog_server.specs.Additions.{AddedState}
+use Rattle.cog_server.specs.Server.{ServerState}
+use Rattle.server_sockets.specs.Going.{AllWentOnOrStart}
+use Rattle.server_sockets.specs.Slots.{NoneChanges, accepted_of, limits_of, slots_of, slot_count}
+use Rattle.server_sockets.specs.declared.serving.Limits.{Limits}
+use Rattle.server_sockets.specs.declared.serving.Serving.{Serving}
+use Rattle.server_files.specs.Publishing.{ArePublishedAnew}
+use Rattle.server_files.specs.declared.error.ServeFilesError.{ServeFilesError}
+use Rattle.server_files.specs.declared.error.ServeFilesError.TheVariants.{CantListen}
+
+-- there are as many slots, the limits are the same, and no more connections are accepted than they allow
+pub record KeepsLimits (old new : Serving) : Type 0 where
+  pub limits : limits_of new ≡ limits_of old
+  pub room : slot_count new ≡ slot_count old
+  pub few : accepted_of old ≤ (limits_of old).connections → accepted_of new ≤ (limits_of old).connections
+
+-- In a round each connection went on by what was published before it, with what is added, or it started. Files were published anew only
+-- where a connection was accepted.
+pub record IsRound {F : Type 0} (gives : F → Option (List ℕ)) (names : List (List ℕ)) (added : AddedState) (s : ServerState) (old : Serving) (t : ServerState)
+    (new : Serving) : Type 0 where
+  pub now : ℕ
+  pub went : AllWentOnOrStart (record { catalogue = s.catalogue; added = added }) now (slots_of old) (slots_of new)
+  pub anew : ArePublishedAnew gives names s t
+  pub idle : accepted_of new ≡ accepted_of old → t ≡ s
+
+-- Round followed round, each with the same additions and within the same limits. Between two of them no connection changed.
+pub data WentRound {F : Type 0} (gives : F → Option (List ℕ)) (names : List (List ℕ)) (added : AddedState) (s : ServerState) (first : Serving) :
+    ServerState → Serving → Type 0 where
+  begun : WentRound gives names added s first s first
+  served : (t u : ServerState) (old new : Serving) → WentRound gives names added s first t old → IsRound gives names added t old u new
+      → KeepsLimits old new → WentRound gives names added s first u new
+  waited : (t : ServerState) (old new : Serving) → WentRound gives names added s first t old → NoneChanges old new → KeepsLimits old new
+      → WentRound gives names added s first t new
+
+-- no connection was accepted yet, and the server has these limits
+pub record IsNewWithin (allowed : Limits) (s : Serving) : Type 0 where
+  pub slots : slots_of s ≡ []
+  pub accepted : accepted_of s ≡ 0
+  pub limits : limits_of s ≡ allowed
+  pub room : slot_count s ≡ non_zero_usize_get allowed.at_once
+
+-- as many connections were accepted as the limits allow, and none has a slot
+abbrev pub IsOver : Serving → Type 0
+IsOver s = ((limits_of s).connections ≤ accepted_of s) × (slots_of s ≡ [])
+
+-- A new server with these limits served so, and it ended well only when it was over.
+pub record ServedWithin {F A : Type 0} (gives : F → Option (List ℕ)) (names : List (List ℕ)) (added : AddedState) (limits : Limits) (s t : ServerState)
+    (result : Result A ServeFilesError) : Type 0 where
+  pub first : Serving
+  pub last : Serving
+  pub begins : IsNewWithin limits first
+  pub went : WentRound gives names added s first t last
+  pub few : accepted_of last ≤ limits.connections
+  pub over : OnOk result (IsOver last)
+
+-- the address can't be listened at
+abbrev pub IsOfListening : ServeFilesError → Type 0
+IsOfListening (CantListen error) = ⊤
+IsOfListening why = ⊥
