@@ -11,7 +11,7 @@ use Rattle.server_files.specs.Publishing.{ArePublishedAnew}
 use Rattle.server_files.specs.declared.error.ServeFilesError.{ServeFilesError}
 use Rattle.server_files.specs.declared.error.ServeFilesError.TheVariants.{CantListen}
 
--- there are as many slots, the limits are the same, and no more connections are accepted than they allow
+-- There are as many slots, and the limits are the same. If no more connections were accepted before than they allow, no more are after.
 pub record KeepsLimits (old new : Serving) : Type 0 where
   pub limits : limits_of new ≡ limits_of old
   pub room : slot_count new ≡ slot_count old
@@ -35,7 +35,7 @@ pub data WentRound {F : Type 0} (gives : F → Option (List ℕ)) (names : List 
   waited : (t : ServerState) (old new : Serving) → WentRound gives names added s first t old → NoneChanges old new → KeepsLimits old new
       → WentRound gives names added s first t new
 
--- no connection was accepted yet, and the server has these limits
+-- no connection was accepted yet, and the server has these limits, with as many slots as they say
 pub record IsNewWithin (allowed : Limits) (s : Serving) : Type 0 where
   pub slots : slots_of s ≡ []
   pub accepted : accepted_of s ≡ 0
@@ -46,7 +46,7 @@ pub record IsNewWithin (allowed : Limits) (s : Serving) : Type 0 where
 abbrev pub IsOver : Serving → Type 0
 IsOver s = ((limits_of s).connections ≤ accepted_of s) × (slots_of s ≡ [])
 
--- A new server with these limits served so, and it ended well only when it was over.
+-- A new server with these limits went round so, and accepted no more connections than they allow. It ended well only when it was over.
 pub record ServedWithin {F A : Type 0} (gives : F → Option (List ℕ)) (names : List (List ℕ)) (added : AddedState) (limits : Limits) (s t : ServerState)
     (result : Result A ServeFilesError) : Type 0 where
   pub first : Serving
