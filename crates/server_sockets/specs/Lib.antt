@@ -3,5 +3,6 @@ pub mod Refusals
 pub mod Turns
 pub mod Draining
 pub mod Waits
+pub mod Unanswered
 pub mod Going
 pub mod Closings

@@ -49,8 +49,14 @@ pub struct UnansweredInput {
 }
 
 impl UnansweredInput {
+    ghost use Rattle.std.specs.Prelude.{◌≡◌, [], Some, drop};
+    ghost use Rattle.std.specs.Option.{option_copied, option_map};
+    ghost use Rattle.server_sockets.specs.Unanswered.{IsNext, Keeps, input_of};
+
     /// Makes an empty one.
-    pub fn new(alloc: Global) -> UnansweredInput {
+    pub fn new(alloc: Global) -> UnansweredInput
+        ensures { input_of result ≡ Some [] }
+    {
         UnansweredInput {
             bytes: Vec::new(alloc),
             is_kept: true,
@@ -58,14 +64,18 @@ impl UnansweredInput {
     }
 
     /// Keeps the bytes that came. Where memory for them is short, nothing is kept from then on.
-    fn keep(&mut self, bytes: &[u8]) {
+    fn keep(&mut self, bytes: &[u8])
+        ensures { Keeps bytes.now self.old self.new }
+    {
         if self.is_kept && self.bytes.extend_from_slice(bytes).is_err() {
             self.is_kept = false;
         }
     }
 
     /// Returns the next message, or `None` where it isn't whole, or where some of the bytes weren't kept.
-    fn next(&self) -> Option<&[u8]> {
+    fn next(&self) -> Option<&[u8]>
+        ensures { IsNext self.now (option_copied result) }
+    {
         law_messages_stay();
         if !self.is_kept {
             return None;
@@ -75,7 +85,9 @@ impl UnansweredInput {
     }
 
     /// Drops the first `length` bytes, which are answered.
-    fn skip(&mut self, length: usize) {
+    fn skip(&mut self, length: usize)
+        ensures { input_of self.new ≡ option_map (drop length) (input_of self.old) }
+    {
         let left = self.bytes.len().saturating_sub(length);
         self.bytes.copy_within(length.min(self.bytes.len()).., 0);
         self.bytes.truncate(left);
