@@ -34,8 +34,8 @@ UNSATISFIABLE = 416
 
 
 class File(Raster):
-    """A file that is read by windows, each of one revision. One that was replaced is read as the new one from then on, and never mixed:
-    `tag` says which revision was read last, `read_tagged()` returns that of an array, and `same()` asks the server.
+    """A file that is read by windows, each of one revision. A file that was replaced is read as the new one from then on, never mixed.
+    `tag` is the ETag of the revision that was read last. `read_tagged()` returns that of an array, and `same()` asks the server.
 
     >>> with open_file('docs/example.tif') as f:                                    # doctest: +SKIP
     ...     f.read(x=24, y=30, width=16, height=4).shape
@@ -77,7 +77,7 @@ class File(Raster):
         raise TypeError('a File is neither copied nor pickled: open its URL or path again')
 
     def close(self) -> None:
-        """Ends the connection, and frees what was kept of the file. Another thread that reads it is waited for."""
+        """Ends the connection, and frees what was kept of the file. Waits for another thread that reads the file."""
         with self._lock:
             self._check_idle()
             if self._open:
@@ -89,7 +89,7 @@ class File(Raster):
 
     @property
     def closed(self) -> bool:
-        """Whether it was closed."""
+        """Whether the file was closed."""
         return not self._open
 
     @property
@@ -100,19 +100,21 @@ class File(Raster):
     def read(self, *, x: Optional[SupportsIndex] = None, y: Optional[SupportsIndex] = None, width: Optional[SupportsIndex] = None,
              height: Optional[SupportsIndex] = None, level: SupportsIndex = 0, bounds: Optional[Sequence[float]] = None,
              out_shape: Optional[Sequence[SupportsIndex]] = None) -> NDArray[Any]:
-        """The samples of `width` columns from `x` and `height` rows from `y`, in pixels of the level: of shape (height, width), or
-        (height, width, 3) of three samples, as uint8 or uint16. They are at most 4,194,304, as 2048 by 2048 of one sample are.
+        """Returns the samples of a window: of `width` columns from `x` and `height` rows from `y`, in pixels of the level.
 
-        Instead of the four numbers `bounds` (left, bottom, right, top) gives the pixels that these map coordinates touch, and without
-        either the whole level is read. Both may be larger. With `out_shape` (rows, columns) the window is in pixels of level 0. It is read
-        from the smallest level in which it has that many rows and columns, and each sample is the nearest one. rasterio's arrays are
-        (count, rows, columns): `numpy.moveaxis(a, -1, 0)` of an RGB file. Bounds that pass a side of the image are a `ValueError`.
+        The array has the shape (height, width), or (height, width, 3) of three samples, and the type uint8 or uint16. It has at most
+        4,194,304 samples, as 2048 by 2048 of one sample. rasterio's arrays are (count, rows, columns): `numpy.moveaxis(a, -1, 0)`.
 
-        Fails with `FileFault` where something is wrong with the file or the window, and with `OutOfMemory`. Fails with `NotUsed` where an
-        answer can't be used, with `Lost` where none came, and with `Late` after the `deadline`. Fails with `ssl.SSLCertVerificationError`
-        where the server's certificate isn't trusted. A file of the disk that can't be opened is the exception of the standard `open`.
-        Fails with `ValueError` for numbers outside 0 to 4,294,967,295 and a closed file, and with `TypeError` for what is no number. Fails
-        with `RuntimeError` where a signal handler calls it within a call of the same file, and in a process that the handler makes there.
+        `bounds` (left, bottom, right, top) may stand instead of the four numbers: all pixels that these map coordinates touch. Without
+        either the whole level is read. In both cases there may be more samples. With `out_shape` (rows, columns) the window is in pixels
+        of level 0. It is read from the smallest level in which it has at least these rows and columns. Each sample is the nearest one.
+
+        Raises `FileFault` where something is wrong with the file or the window, and `OutOfMemory`. Raises `NotUsed` where an answer can't
+        be used, `Lost` where none came, and `Late` after the `deadline`. Raises `ssl.SSLCertVerificationError` where the server's
+        certificate isn't trusted, and the exception of the standard `open` where a file of the disk can't be opened. Raises `ValueError`
+        for a number outside 0 to 4,294,967,295, for bounds that pass a side of the image, and for a closed file. Raises `TypeError` for
+        what is no number. Raises `RuntimeError` where a signal handler calls it within a call of the same file. It does so, too, in a
+        process that the handler makes there.
 
         >>> f.read(x=24, y=30, width=4, height=2).tolist()
         [[216, 221, 226, 231], [217, 222, 227, 232]]
@@ -129,10 +131,10 @@ class File(Raster):
 
     def read_columns(self, *, x: SupportsIndex, y: SupportsIndex, width: SupportsIndex, height: SupportsIndex,
                      columns: SupportsIndex) -> NDArray[Any]:
-        """The same of a window that is given in pixels of level 0, from the smallest level in which it is at least `columns` columns wide,
-        before it is rounded outwards, level 0 if there is none.
+        """Returns the samples of a window that is given in pixels of level 0, from a smaller level.
 
-        Fails as `read` does.
+        It is the smallest level in which the window is at least `columns` columns wide, before it is rounded outwards. If there is none,
+        it is level 0. Raises what `read` raises.
 
         >>> f.read_columns(x=0, y=0, width=8192, height=5632, columns=512).shape      # doctest: +SKIP
         (352, 512)
@@ -141,10 +143,10 @@ class File(Raster):
 
     def read_tagged(self, *, x: SupportsIndex, y: SupportsIndex, width: SupportsIndex, height: SupportsIndex,
                     level: Optional[SupportsIndex] = None, columns: Optional[SupportsIndex] = None) -> Tuple[NDArray[Any], str]:
-        """What `read` gives, or with `columns`, and no level, what `read_columns` does, and the tag of its revision, whatever other threads
-        read. Without either it is of level 0.
+        """Returns what `read` returns, or with `columns` what `read_columns` returns, and the ETag of its revision.
 
-        Fails as `read` does, and with `TypeError` for a level beside columns.
+        Other threads may read another revision meanwhile. Without `level` and `columns` the level is 0. Raises what `read` raises, and
+        `TypeError` for a level together with columns.
 
         >>> f.read_tagged(x=3000, y=2000, width=256, height=256)[1]                   # doctest: +SKIP
         '"1-1"'
@@ -158,11 +160,13 @@ class File(Raster):
 
     def read_windows(self, windows: Iterable[Sequence[SupportsIndex]], *, level: SupportsIndex = 0,
                      connections: SupportsIndex = 8) -> List[NDArray[Any]]:
-        """What `read` gives of each of these windows (x, y, width, height), in their order, all of one revision, which `tag` has then. They
-        are read side by side over at most `connections` connections, 1 to 64, each with as many blocks, which are kept until `close`. Up to 64
-        arrays may lie in one piece of memory, of 4 MiB at most, or 8 MiB of 16 bits.
+        """Returns the samples of each of `windows` (x, y, width, height), in their order. All are of one revision, which `tag` has then.
 
-        Fails as `read` does of one window, and gives no array then. Windows of other than four numbers are a `ValueError`.
+        They are read side by side over at most `connections` connections, 1 to 64. Each has a thread, and a cache of `blocks` blocks, which
+        is kept until `close`. Up to 64 arrays may share one piece of memory, of at most 4 MiB (8 MiB for 16 bits). So `copy()` an array that
+        you keep without the others.
+
+        Raises what `read` raises of one window, and returns no array then. Raises `ValueError` for a window of other than four numbers.
 
         >>> [a.shape for a in f.read_windows([(0, 0, 256, 256), (3000, 2000, 64, 32)])]   # doctest: +SKIP
         [(256, 256), (32, 64)]
@@ -172,10 +176,10 @@ class File(Raster):
 
     @property
     def info(self) -> Info:
-        """What georeferences the image: keys, scale, tiepoint and transform as numbers. Where it has to be asked for it may be of a newer
-        revision than what was read before: `info.tag` says of which, to be compared with that of `read_tagged`.
+        """What georeferences the image: keys, scale, tiepoint and transform as numbers.
 
-        Fails as `read` does.
+        If it has to be requested, it may be of a newer revision than an array that you have. `info.tag` is its ETag: compare it with that of
+        `read_tagged`. Raises what `read` raises.
 
         >>> f.info.scale                                                               # doctest: +SKIP
         (0.01, 0.01, 0.0)
@@ -189,12 +193,12 @@ class File(Raster):
 
     @property
     def tag(self) -> str:
-        """The tag of the revision that was read last, by whichever thread, with its quotes; where nothing was read yet, the info is."""
+        """The ETag of the revision that was read last, by whichever thread, with its quotes. If nothing was read yet, the info is read."""
         return self._tag if self._tag is not None else self.info.tag
 
     def same(self) -> bool:
-        """Asks whether the file still is the revision that was read last. The connection that is kept ends with it. Fails as `read` does, and
-        with `Error` where nothing was read yet."""
+        """Asks whether the file still is the revision that was read last. This ends the connection that is kept. Raises what `read` raises,
+        and `Error` where nothing was read yet."""
         return self._alone(self._ask)
 
     def _alone(self, do: Callable[..., Result], *words: Any) -> Result:

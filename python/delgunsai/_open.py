@@ -18,18 +18,19 @@ URL = re.compile(r'[^/]*://|https?:', re.IGNORECASE)
 def open(place: Union[str, 'os.PathLike[str]'], *, blocks: SupportsIndex = 256, timeout: Optional[float] = 30.0,
          deadline: Optional[float] = None, context: Optional[ssl.SSLContext] = None,
          headers: Optional[Mapping[str, str]] = None) -> File:
-    """Opens a file at a URL of http or https, or of the disk. Nothing is read yet. A text with :// after its first word, or that begins
-    with http: or https:, is a URL. Any other text, and each `os.PathLike`, is a path, as `open_file` takes it.
+    """Opens a file at a URL of http or https, or of the disk. Nothing is read yet.
 
-    `blocks` of 16,384 bytes, 66 to 4,096, are kept of the file, and of packed tiles as many bytes unpacked. The others are of URLs alone.
-    `timeout` is how many seconds each attempt to connect may take (one for each address of the host), each TLS handshake, and each read and
-    write, None for ever. An exchange that brought nothing is tried three times, so `Lost` may take several of them. `deadline` is how many
-    seconds a whole call may take, None for ever. After it the call fails with `Late`, which is a `Lost`. `context` says which certificates
-    are trusted, those of the system without it. `headers` are fields that each request has as well, such as `Authorization`. Their values
-    are shown nowhere. Proxies aren't used.
+    A text with :// after its first word, or that begins with http: or https:, is a URL. Any other text, and each `os.PathLike`, is a path.
 
-    Fails with `BadUrl` where the URL is outside the rules, and with the `OSError` of the standard `open` where the path can't be opened.
-    Fails with `ValueError` where a number is outside its limits, or a field can't be added, and with `TypeError` for another type.
+    `blocks` is the size of the cache, in blocks of 16,384 bytes: 66 to 4,096. Unpacked bytes of packed tiles are kept beside it, up to the
+    same size. The other parameters are of URLs alone. `timeout` is in seconds, or None for ever. Each attempt to connect may take that long
+    (one for each address of the host), each TLS handshake, and each read and write. An exchange that brought nothing is tried three times,
+    so `Lost` may take several of them. `deadline` is how many seconds a whole call may take, or None for ever. `context` says which
+    certificates are trusted; without it they are those of the system. `headers` are fields that are added to each request, such as
+    `Authorization`. Their values are shown nowhere. Proxies aren't used.
+
+    Raises `BadUrl` where the URL is outside the rules, and the `OSError` of the standard `open` where the path can't be opened. Raises
+    `ValueError` where a number is outside its limits, or a field can't be added. Raises `TypeError` for another type.
 
     >>> with open('http://127.0.0.1:8080/a.tif') as f:                              # doctest: +SKIP
     ...     f.levels
@@ -64,8 +65,8 @@ def _bytes(text: str) -> bytes:
 
 
 def open_file(path: Union[str, 'os.PathLike[str]'], *, blocks: SupportsIndex = 256) -> File:
-    """A file of the disk. It is read by ranges too, and may be replaced. Where it isn't there, is a folder or may not be read, now or
-    later, the exception is that of the standard `open`.
+    """Opens a file of the disk. It is read by ranges too, and may be replaced. Raises the exception of the standard `open` where it isn't
+    there, is a folder or may not be read. Later calls do so, too.
 
     >>> with open_file('docs/example.tif') as f:                                    # doctest: +SKIP
     ...     f.levels
