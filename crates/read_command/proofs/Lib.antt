@@ -3,3 +3,4 @@ pub mod PartLemmas
 pub mod FetchLemmas
 pub mod UsedLemmas
 pub mod FormLemmas
+pub mod ServesLemmas

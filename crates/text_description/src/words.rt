@@ -189,8 +189,8 @@ fn are_visible(bytes: &[u8]) -> bool
     bytes.iter().all(|byte| is_visible(*byte))
 }
 
-/// Returns an ETag as it is printed: with each control character as `\u{..}`. One of visible characters of ASCII stays as it is. Fails where
-/// no memory is left.
+/// Returns an ETag as it is printed: with each control character as `\u{..}`. One of visible characters of ASCII stays as it is. Fails
+/// where no memory is left.
 fn printed_tag(alloc: Global, tag: &str) -> Result<String, Memory>
     ensures { IfOk result (λ text. IsTrue (list_all is_visible tag.now) → string_bytes text ≡ tag.now) }
 {
