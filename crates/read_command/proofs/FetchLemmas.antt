@@ -3,7 +3,7 @@ use Rattle.std.proofs.Common.{◌≡◌, ℕ, zero, suc, List, Option, Some, Non
 use Rattle.std.specs.Prelude.{IfOk, OnErr}
 use Rattle.cog_client.specs.Client.{ClientState}
 use Rattle.cog_client.specs.Keeps.{RequestsKeeping}
-use Rattle.cog_client.specs.Transport.{Anything, Coming, Fetches, FetchesAll, FetchesOnce, FetchesSome, StopsFetching, StopsOnce, TakesOrLoses}
+use Rattle.cog_client.specs.Transport.{Anything, Coming, Fetches, FetchesAll, FetchesSome, StopsFetching, StopsOnce, TakesOrLoses}
 
 takes_anything : (came : Coming) (request : List ℕ) (old new : ClientState) → TakesOrLoses came request old new → TakesOrLoses Anything request old new
 takes_anything came request old new (inl (lost, same)) = inl (tt, same)

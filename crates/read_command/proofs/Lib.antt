@@ -2,3 +2,5 @@ pub mod OpenLemmas
 pub mod PartLemmas
 pub mod FetchLemmas
 pub mod UsedLemmas
+pub mod FormLemmas
+pub mod ServesLemmas

@@ -1,8 +1,8 @@
 -- A report of another tag takes an exchange, so that exchanges are used up where the file is replaced again and again.
-use Rattle.std.proofs.Common.{◌≡◌, ◌≢◌, ◌≤◌, ◌⊎◌, ◌+◌, ℕ, zero, suc, List, Option, Some, None, Result, Ok, Err, inl, inr, refl, sym, ap, ◌∙◌, subst, arith}
-use Rattle.std.specs.Prelude.{IfSome, IsSome, IsSomeAnd, OnOk}
+use Rattle.std.proofs.Common.{◌≡◌, ◌≢◌, ◌≤◌, ◌⊎◌, ◌+◌, ℕ, zero, suc, List, Option, Some, None, inl, inr, refl, sym, ap, ◌∙◌, subst, arith}
+use Rattle.std.specs.Prelude.{IfSome, IsSome, IsSomeAnd}
 use Rattle.std.specs.Option.{option_map}
-use Rattle.std.proofs.lemmas.Option.{none-some, same_Some}
+use Rattle.std.proofs.lemmas.Option.{same_Some}
 use Rattle.tiff_dir.specs.declared.query.Query.{Query}
 use Rattle.tiff_dir.specs.declared.query.Query.TheVariants.{Info}
 use Rattle.http_range.specs.Book.{Book}
@@ -14,12 +14,12 @@ use Rattle.cog_client.specs.Case.{Revision}
 use Rattle.cog_client.specs.declared.report.Report.{Report}
 use Rattle.cog_client.specs.Report.{IsTrueReport}
 use Rattle.cog_client.specs.Client.{ClientState, ClientAgrees, name_of, query_of, report_of, revision_of, tag_of}
-use Rattle.cog_client.specs.Keeps.{OpensKeeping, RequestsKeeping, Stands}
+use Rattle.cog_client.specs.Keeps.{OpensKeeping, Stands}
 use Rattle.cog_client.specs.Transport.{Coming, Fetches, FetchesAll, RestsOrHasNone}
 use Rattle.read_command.specs.declared.part.Part.{Part}
 use Rattle.read_command.specs.declared.reading.Asked.{Asked}
 use Rattle.read_command.specs.declared.reading.Asked.TheVariants as asked
-use Rattle.read_command.specs.Exchanges.{AnswersPart, IsAnswered, IsAtOnce}
+use Rattle.read_command.specs.Exchanges.{IsAnswered, IsAtOnce}
 use Rattle.read_command.specs.Text.{GivesWindow, HasNothing}
 use Rattle.read_command.proofs.OpenLemmas.{ends_of}
 

@@ -1,13 +1,16 @@
 -- What exchanges for what is asked keep and do, and when they end.
-use Rattle.std.specs.Prelude.{◌≡◌, ◌≢◌, ◌≤◌, ◌⊎◌, ℕ, zero, suc, Bool, true, Option, Some, IfSome, IsSome, IsSomeAnd, ⊤}
+use Rattle.std.specs.Prelude.{◌≡◌, ◌≢◌, ◌+◌, ◌≤◌, ◌⊎◌, ℕ, zero, suc, Bool, true, List, Option, Some, IfSome, IsSome, IsSomeAnd, ⊤}
 use Rattle.tiff_dir.specs.declared.query.Query.{Query}
 use Rattle.tiff_dir.specs.declared.query.Query.TheVariants.{Window, Info}
 use Rattle.tiff_dir.specs.declared.query.Pick.TheVariants.{Level}
+use Rattle.tiff_dir.specs.Query.{cost}
 use Rattle.http_range.specs.Book.{Publication, Book, In}
 use Rattle.http_range.specs.declared.reading.Why.{Why}
 use Rattle.cog_client.specs.Client.{ClientState, query_of, report_of}
 use Rattle.cog_client.specs.Keeps.{OpensKeeping}
-use Rattle.cog_client.specs.Transport.{Anything, FetchesSome, ReadsBook, StopsFetching}
+use Rattle.cog_client.specs.Serves.{Serves}
+use Rattle.cog_client.specs.Transport.{Anything, AnswersOn, FetchesSome, ReadsBook, StopsFetching}
+use Rattle.cog_fetch.specs.Takes.{AllOf, TakenOf}
 use Rattle.read_progress.specs.declared.noted.Noted.{Noted}
 use Rattle.read_progress.specs.Noted.{IsRefused}
 use Rattle.text_description.specs.Covering.{IsOfLevel}
@@ -60,6 +63,24 @@ ReadsSome a old new = (n : ℕ) × ReadsQueries a n old new
 abbrev pub StopsReading : Asked → ClientState → ClientState → Type 0
 StopsReading a old new = (mid opened : ClientState) × (query : Query) × IsAskedFor a query
     × ReadsSome a old mid × OpensKeeping query mid opened × StopsFetching Anything opened new
+
+-- ---- a source that serves one file
+
+-- what is taken of the answers later might have been taken before
+abbrev pub GoesOn : (speaks_before speaks_after : Book → Type 0) → (before after : List ℕ → List ℕ → Type 0) → Type 0
+GoesOn speaks_before speaks_after before after = (lost : Bool) → AnswersOn (TakenOf speaks_before before lost) (TakenOf speaks_after after lost)
+
+-- The client reads a book for which the source speaks, and the source brings answers of one publication of it alone. What is taken of each has all
+-- that is asked for, or is the whole file.
+pub record ServesFile (speaks : Book → Type 0) (answers : List ℕ → List ℕ → Type 0) (c : ClientState) (p : Publication) : Type 0 where
+  pub book : Book
+  pub reads : ReadsBook speaks c book
+  pub among : In p book
+  pub serves : Serves (AllOf answers) p
+
+-- Exchanges are left for what is asked of the file: as many as it costs, and so many to spare.
+abbrev pub CostsWithin : Asked → (file : List ℕ) → (spare count most : ℕ) → Type 0
+CostsWithin a file spare count most = (q : Query) → IsAskedFor a q → count + cost file q + spare ≤ most
 
 -- ---- answers that aren't used
 

@@ -14,10 +14,10 @@ use Rattle.cog_reader.specs.Outcome.{IsInfoOf}
 use Rattle.cog_client.specs.declared.report.Report.{Report}
 use Rattle.cog_client.specs.Report.{IsTrueReport}
 use Rattle.text_description.specs.Covering.{window_covering}
-use Rattle.text_description.specs.Text.{IsJson, IsLine}
+use Rattle.text_description.specs.Text.{IsJson, IsLine, NamesTag}
 use Rattle.text_description.specs.declared.covering.Bounds.{Bounds}
 use Rattle.text_description.specs.declared.description.Form.{Form}
-use Rattle.text_description.specs.declared.description.Form.TheVariants.{Json}
+use Rattle.text_description.specs.declared.description.Form.TheVariants.{Json, Words}
 use Rattle.text_description.specs.World.{world_file}
 use Rattle.text_description.specs.declared.world.WorldFile.{WorldFile}
 use Rattle.text_report.specs.InfoText.{IsOfTag}
@@ -88,9 +88,9 @@ abbrev pub GivesNone : Asked → Outcome → NotGiven → Type 0
 GivesNone (asked.Part part) (outcome.Info i) why = part_given i part ≡ Err why
 GivesNone a o why = ⊥
 
--- a description for programs is laid out as JSON is, with the end of a line after it
-abbrev pub IsInForm : Form → List ℕ → Type 0
-IsInForm form text = form ≡ Json → IsLine IsJson text
+-- A description for programs is laid out as JSON is, with the end of a line after it. The first line of one for people names the tag.
+abbrev pub IsInForm : Form → (tag text : List ℕ) → Type 0
+IsInForm form tag text = (form ≡ Json → IsLine IsJson text) × (form ≡ Words → NamesTag tag text)
 
 -- A text, or a fault of the file, is what an outcome says of the file of this tag. A window is written as a graymap or a pixmap, and of a
 -- part of a level nothing else. The text of Info begins with the line of the tag. A description has the form that was asked for. Neither has
@@ -100,7 +100,7 @@ abbrev pub IsWritten : Asked → (tag : List ℕ) → Outcome → Result Text Re
 IsWritten a tag (outcome.Window v) (Ok text) = text.head.items ++ text.samples.now ≡ netpbm v.samples v.bits v.w v.h v.pixels.items
 IsWritten (asked.Query query) tag (outcome.Info i) (Ok text) = IsOfTag tag text.head.items × (text.samples.now ≡ [])
 IsWritten (asked.Part part) tag (outcome.Info i) (Ok text) = ⊥
-IsWritten (asked.Description form) tag (outcome.Info i) (Ok text) = IsInForm form text.head.items × (text.samples.now ≡ [])
+IsWritten (asked.Description form) tag (outcome.Info i) (Ok text) = IsInForm form tag text.head.items × (text.samples.now ≡ [])
 IsWritten a tag (outcome.Fault fault) written = written ≡ Err (OfFile fault)
 IsWritten a tag o (Err NoReport) = GivesWindow a o
 IsWritten a tag o (Err (NoWindow why)) = GivesNone a o (not_given.NoWindow why)

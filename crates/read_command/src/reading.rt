@@ -1,18 +1,20 @@
 //! How `cogread` reads: how many exchanges it makes, what is asked of the file, and the text of its report.
 ghost use Rattle.std.specs.Prelude.{◌≡◌, ◌≢◌, ℕ, ◌+◌, ◌<◌, ◌≤◌, ◌^◌, ◌⊎◌, false, true, Err, IfErr, IfOk, IfSome, IsSome, IsSomeAnd, List, None, OnErr, OnOk, Option, Some, min};
+ghost use Rattle.tiff_dir.specs.declared.query.Query.{Query};
 ghost use Rattle.tiff_dir.specs.declared.query.Query.TheVariants.{Info as AnInfo};
-ghost use Rattle.http_range.specs.Book.{Book, HasDistinctTags};
+ghost use Rattle.tiff_dir.specs.Query.{cost};
+ghost use Rattle.http_range.specs.Book.{Book, HasDistinctTags, Publication};
 ghost use Rattle.http_range.specs.declared.reading.Why.{Why};
 ghost use Rattle.cog_client.specs.Calls.{IsIdle};
 ghost use Rattle.cog_client.specs.declared.report.Report.{Report};
-ghost use Rattle.cog_client.specs.Client.{name_of, query_of, report_of, revision_of, tag_of, ClientAgrees};
-ghost use Rattle.cog_client.specs.Keeps.{RequestsKeeping, Stands};
+ghost use Rattle.cog_client.specs.Client.{name_of, query_of, report_of, revision_of, tag_of, ClientAgrees, ClientState};
+ghost use Rattle.cog_client.specs.Keeps.{OpensKeeping, RequestsKeeping, Stands};
 ghost use Rattle.cog_client.specs.Transport.{Anything, FetchesAll, FetchesSome, KeepsReading, ReadsBook, StopsFetching};
 ghost use Rattle.cog_fetch.specs.Takes.{TakenOf};
 ghost use Rattle.read_progress.specs.Noted.{IsRefused, source_of};
 ghost use Rattle.read_command.specs.declared.error.ReadError.TheVariants.{NoReport, NotUsed};
 ghost use Rattle.read_command.specs.declared.reading.Asked.TheVariants.{Part as APart};
-ghost use Rattle.read_command.specs.Exchanges.{AsksOf, Ends, EndsUnused, IsAnswered, IsAtOnce, IsUnused, IsWindowFor, ReadsSome, StillReads, StopsReading};
+ghost use Rattle.read_command.specs.Exchanges.{AsksOf, CostsWithin, Ends, EndsUnused, GoesOn, IsAnswered, IsAtOnce, IsUnused, IsWindowFor, ReadsSome, ServesFile, StillReads, StopsReading};
 ghost use Rattle.read_command.specs.Text.{GivesWindow, HasNothing, IsOfFile, IsOfPartBy, IsWritten, StaysWithin, WritesTrue};
 
 use crate::error::ReadError;
@@ -77,6 +79,14 @@ impl<R: Eprint + Clock + AllocGlobal> Exchanges<'_, R> {
         ensures ends { OnOk result ((self.now.requests ≤ P.count (source_of noted.new)) ⊎ IsIdle client.new) }
         ensures last { self.now.requests ≤ P.count (source_of noted.old)
             → OnOk result ((request : Option (List ℕ)) × RequestsKeeping client.old request client.new) }
+        ensures goes_on { GoesOn (P.speaks_for (source_of noted.old)) (P.speaks_for (source_of noted.new))
+            (P.answers (source_of noted.old)) (P.answers (source_of noted.new)) }
+        // `goes_on`: what the source brings later it might have brought before. `reports`: after an opening a report stands, if the source
+        // serves one file and loses nothing, and at least cost + 1 exchanges are left.
+        ensures reports { (p : Publication) (q : Query) (before : ClientState)
+            → ServesFile (P.speaks_for (source_of noted.old)) (P.answers (source_of noted.old)) before p
+            → OpensKeeping q before client.old → P.has_lost (source_of noted.new) ≡ false
+            → P.count (source_of noted.old) + cost p.file q + 1 ≤ self.now.requests → OnOk result (IsSome (report_of client.new)) }
 
         // `taken`: where an exchange is left, the client makes as many exchanges as the source counts, and nothing else is done to it. Each
         // is a request and what comes of its answer. `fetches`: in any case it makes some exchanges and nothing else, since a request for
@@ -148,6 +158,12 @@ impl<R: Eprint + Clock + AllocGlobal> Exchanges<'_, R> {
         ensures ends { OnOk result (Ends asked self.now.requests (P.count (source_of noted.new)) client.old client.new) }
         ensures answered { (book : Book) → ReadsBook (P.speaks_for (source_of noted.old)) client.old book
             → OnOk result (IsAnswered asked self.now.requests (P.count (source_of noted.new)) client.new) }
+        ensures goes_on { IsAtOnce asked → GoesOn (P.speaks_for (source_of noted.old)) (P.speaks_for (source_of noted.new))
+            (P.answers (source_of noted.old)) (P.answers (source_of noted.new)) }
+        ensures reports { IsAtOnce asked → (p : Publication)
+            → ServesFile (P.speaks_for (source_of noted.old)) (P.answers (source_of noted.old)) client.old p
+            → P.has_lost (source_of noted.new) ≡ false
+            → CostsWithin asked p.file 1 (P.count (source_of noted.old)) self.now.requests → OnOk result (IsSome (report_of client.new)) }
 
         // `queries`: queries for what is asked are opened one after another, with exchanges for each, and nothing else is done to the
         // client. `stops`: where no memory was left, that was in the exchanges for the last of them.
@@ -173,6 +189,8 @@ impl<R: Eprint + Clock + AllocGlobal> Exchanges<'_, R> {
     ) -> Result<Option<Why>, FetchError>
         ensures reads { StillReads (P.speaks_for (source_of noted.old)) (P.speaks_for (source_of noted.new)) client.old client.new }
         ensures few { StaysWithin (min self.now.requests 1) (P.count (source_of noted.old)) (P.count (source_of noted.new)) }
+        ensures goes_on { IsAtOnce asked → GoesOn (P.speaks_for (source_of noted.old)) (P.speaks_for (source_of noted.new))
+            (P.answers (source_of noted.old)) (P.answers (source_of noted.new)) }
         ensures refused { IfOk result (λ refusal. IfSome refusal (λ why. IsRefused why noted.new)) }
     {
         let first = Exchanges {
@@ -194,6 +212,9 @@ impl<R: Eprint + Clock + AllocGlobal> Exchanges<'_, R> {
     ) -> Result<(), ReadError>
         ensures reads { StillReads (P.speaks_for (source_of noted.old)) (P.speaks_for (source_of noted.new)) client.old client.new }
         ensures few { StaysWithin self.now.requests (P.count (source_of noted.old)) (P.count (source_of noted.new)) }
+        ensures once { StaysWithin (min self.now.requests 1) (P.count (source_of noted.old)) (P.count (source_of noted.new)) }
+        ensures goes_on { IsAtOnce asked → GoesOn (P.speaks_for (source_of noted.old)) (P.speaks_for (source_of noted.new))
+            (P.answers (source_of noted.old)) (P.answers (source_of noted.new)) }
         ensures refused { IfErr result (EndsUnused self.now.is_url (P.count (source_of noted.old)) (P.count (source_of noted.new))
             noted.new) }
     {
@@ -222,6 +243,10 @@ impl<R: Eprint + Clock + AllocGlobal> Exchanges<'_, R> {
             ((self.now.requests ≤ P.count (source_of noted.new)) ⊎ IsSome (report_of client.new)) }
         ensures answered { (book : Book) → ReadsBook (P.speaks_for (source_of noted.old)) client.old book
             → OnOk result (IsAnswered asked self.now.requests (P.count (source_of noted.new)) client.new) }
+        ensures reports { IsAtOnce asked → (p : Publication)
+            → ServesFile (P.speaks_for (source_of noted.old)) (P.answers (source_of noted.old)) client.old p
+            → P.has_lost (source_of noted.new) ≡ false
+            → CostsWithin asked p.file 2 (P.count (source_of noted.old)) self.now.requests → OnOk result (IsSome (report_of client.new)) }
         ensures refused { IfErr result (EndsUnused self.now.is_url (P.count (source_of noted.old)) (P.count (source_of noted.new))
             noted.new) }
     {
@@ -250,6 +275,12 @@ impl<R: Eprint + Clock + AllocGlobal> Exchanges<'_, R> {
             → self.now.requests ≤ P.count (source_of noted.new) }
         ensures used_up { (book : Book) → ReadsBook (P.speaks_for (source_of noted.old)) client.old book → result ≡ Err NoReport
             → self.now.requests ≤ P.count (source_of noted.new) }
+        // Of a query or a description there is a report on these conditions. The source serves one file of a book that the client reads.
+        // It loses nothing. At least cost + 2 exchanges are left: the first exchange of a URL may be one that the cost doesn't count.
+        ensures reports { IsAtOnce asked → (p : Publication)
+            → ServesFile (P.speaks_for (source_of noted.old)) (P.answers (source_of noted.old)) client.old p
+            → P.has_lost (source_of noted.new) ≡ false
+            → CostsWithin asked p.file 2 (P.count (source_of noted.old)) self.now.requests → result ≢ Err NoReport }
         // `NotUsed` is returned only where a URL names the file, after one exchange at most, and gives the reason of the answer that came
         // then.
         ensures refused { (why : Why) → result ≡ Err (NotUsed why)

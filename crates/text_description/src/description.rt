@@ -1,6 +1,7 @@
 //! The description of a file.
 ghost use Rattle.std.specs.Prelude.{◌≡◌, IfOk, IfSome, None, Ok, string_bytes};
-ghost use Rattle.text_description.specs.Text.{IsJson, IsLine};
+ghost use Rattle.text_description.specs.Text.{IsJson, IsLine, NamesTag};
+ghost use Rattle.std.specs.Cow.{cow_str_bytes};
 ghost use Rattle.std.specs.Option.{option_map};
 ghost use Rattle.text_description.specs.Description.{Describes, AreLevelsBy, IsFactsBy, HasMasks, HasNoData, HasNoInfo, is_point};
 ghost use Rattle.std.specs.List.{AllZip};
@@ -9,6 +10,7 @@ ghost use Rattle.text_description.specs.Placement.{corners_by, geo_transform_of}
 use crate::facts::{CoordinateSystem, LevelFacts, RasterType, readable};
 use crate::no_data::{count_masks, no_data_text};
 use crate::placement::{Corners, Placement};
+use crate::words::words_of;
 use cog_client::{Client, Memory, Outcome};
 use known_fields::known_sum;
 use serde::Serialize;
@@ -90,13 +92,14 @@ impl<'a> Description<'a> {
         }))
     }
 
-    /// Returns the description as text: one fact a line, or JSON with line breaks and indents. The text ends with a line feed. Fails where
-    /// no memory is left.
+    /// Returns the description as text: one fact a line, or JSON with line breaks and indents. In words the first line has the ETag. The
+    /// text ends with a line feed. Fails where no memory is left.
     pub fn text(&self, alloc: Global, form: Form) -> Result<String, Memory>
         ensures json { form ≡ Form.Json → IfOk result (λ text. IsLine IsJson (string_bytes text)) }
+        ensures words { form ≡ Form.Words → IfOk result (λ text. NamesTag (cow_str_bytes self.now.tag) (string_bytes text)) }
     {
         match form {
-            Form::Words => Ok(format!(in alloc; "{self}")?),
+            Form::Words => words_of(alloc, self),
             Form::Json => {
                 let mut text = json_text(alloc, self)?;
                 text.push('\n')?;

@@ -1,10 +1,17 @@
 //! A description in words, one fact a line.
+ghost use Rattle.std.specs.Prelude.{◌≡◌, IfOk, IsTrue, string_bytes};
+ghost use Rattle.std.specs.Cow.{cow_str_bytes};
+ghost use Rattle.std.specs.List.{list_all};
+ghost use Rattle.text_description.specs.Text.{NamesTag, is_visible};
+
 use crate::covering::NoPixels;
 use crate::description::Description;
 use crate::facts::{CoordinateSystem, LevelFacts, RasterType};
 use crate::placement::{Corners, Placement};
 use crate::world::WorldFile;
+use cog_client::Memory;
 use ryu::Buffer;
+use std::alloc::Global;
 use std::fmt;
 use text_report::EscapedText;
 
@@ -131,35 +138,80 @@ impl fmt::Display for RasterType {
     }
 }
 
-impl fmt::Display for Description<'_> {
+/// Prints what a description says after its ETag, one fact a line.
+#[derive(Clone, Copy)]
+struct FactLines<'d, 'a>(&'d Description<'a>);
+
+impl fmt::Display for FactLines<'_, '_> {
     fn fmt<W: fmt::Write>(&self, f: &mut fmt::Formatter<W>) -> fmt::Result {
-        writeln!(f, "tag {}", EscapedText(self.tag.as_str()))?;
-        writeln!(f, "{} bytes", self.length)?;
-        for (number, level) in self.levels.iter().enumerate() {
+        let description = self.0;
+        writeln!(f, "{} bytes", description.length)?;
+        for (number, level) in description.levels.iter().enumerate() {
             writeln!(f, "level {number}: {level}")?;
         }
-        if let Some(no_data) = &self.no_data {
+        if let Some(no_data) = &description.no_data {
             let value = EscapedText(no_data.as_str());
             writeln!(f, "pixels with the value {value} mean no data, by the file")?;
         }
-        if let Some(masks) = self.masks
+        if let Some(masks) = description.masks
             && masks > 0
         {
             let masks = CountedNoun(u32::from(masks), "mask");
             writeln!(f, "{masks}, not read")?;
         }
-        if let Some(system) = &self.coordinate_system {
+        if let Some(system) = &description.coordinate_system {
             writeln!(f, "{system}")?;
         }
-        if let Some(raster_type) = self.raster_type {
+        if let Some(raster_type) = description.raster_type {
             writeln!(f, "{raster_type}")?;
         }
-        if let Some(placement) = &self.placement {
+        if let Some(placement) = &description.placement {
             write!(f, "{placement}")?;
         }
-        match &self.corner_coordinates {
+        match &description.corner_coordinates {
             Some(corners) => write!(f, "{corners}"),
             None => Ok(()),
         }
     }
+}
+
+/// Returns whether a byte is a visible character of ASCII.
+fn is_visible(byte: u8) -> bool
+    ensures { result ≡ is_visible byte }
+{
+    byte >= b'!' && byte <= b'~'
+}
+
+/// Returns whether each byte is a visible character of ASCII.
+fn are_visible(bytes: &[u8]) -> bool
+    ensures { result ≡ list_all is_visible bytes.now }
+{
+    bytes.iter().all(|byte| is_visible(*byte))
+}
+
+/// Returns an ETag as it is printed: with each control character as `\u{..}`. One of visible characters of ASCII stays as it is. Fails
+/// where no memory is left.
+fn printed_tag(alloc: Global, tag: &str) -> Result<String, Memory>
+    ensures { IfOk result (λ text. IsTrue (list_all is_visible tag.now) → string_bytes text ≡ tag.now) }
+{
+    if !are_visible(tag.as_bytes()) {
+        return Ok(format!(in alloc; "{}", EscapedText(tag))?);
+    }
+    let mut text = String::new(alloc);
+    text.push_str(tag)?;
+    Ok(text)
+}
+
+/// Returns a description in words: a line with its ETag, and then the other facts. Fails where no memory is left.
+pub(crate) fn words_of(alloc: Global, description: &Description<'_>) -> Result<String, Memory>
+    ensures { IfOk result (λ text. NamesTag (cow_str_bytes description.now.tag) (string_bytes text)) }
+{
+    let tag = printed_tag(alloc, description.tag.as_str())?;
+    let facts = format!(in alloc; "{}", FactLines(description))?;
+    let mut text = String::new(alloc);
+    text.push_str("tag ")?;
+    text.push_str(&tag)?;
+    text.push_str("\n")?;
+    text.push_str(&facts)?;
+    Ok(text)
 }

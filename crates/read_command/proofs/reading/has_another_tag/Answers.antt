@@ -1,4 +1,4 @@
-use Rattle.std.proofs.Common.{◌≡◌, Some, rules}
+use Rattle.std.proofs.Common.{Some, rules}
 use Rattle.read_command.proofs.UsedLemmas.{other_tag}
 use Rattle.read_command.proofs.reading.has_another_tag.Goals as goal
 

@@ -60,3 +60,11 @@ returns-clause-answered g c = λ book reads.
       | in-Description w ↦ λ part same. description_part _ part (sym w.in-Description.is ∙ same)
     ] in
     answered_for c.args.asked c.fetch.new.client _ _ other (ends_of c.match-asked.query c.fetch.new.client _ _ is c.in_ok-fetch.ensures.ends)
+
+pub returns-clause-reports : goal.returns-clause-reports
+returns-clause-reports g c = λ once p serves lost within.
+    let for : IsAskedFor c.args.asked c.match-asked.query = elim c.match-asked.branch [
+      | in-Query w ↦ subst (λ (a : Asked). IsAskedFor a c.match-asked.query) (sym w.in-Query.is) w.query-is
+      | in-Description w ↦ subst (λ (a : Asked). IsAskedFor a c.match-asked.query) (sym w.in-Description.is) w.query-is
+    ] in
+    c.in_ok-fetch.ensures.reports p c.match-asked.query c.args.client.now serves c.open.ensures lost (within c.match-asked.query for)
