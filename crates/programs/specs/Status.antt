@@ -85,3 +85,8 @@ exit_of_reading (reading.NotUsed why) = NotUsed why
 exit_of_reading (reading.NoWindow why) = NoWindow why
 exit_of_reading reading.NoWorld = NoWorld
 exit_of_reading reading.Memory = Memory
+
+-- The fault of such an error. Where a URL names the file, and no report stands, it is one of status 4.
+abbrev pub IsExitOf : ReadError → Bool → Exit → Type 0
+IsExitOf reading.NoReport true fault = HasStatus fault 4
+IsExitOf error is_url fault = fault ≡ exit_of_reading error

@@ -5,7 +5,6 @@ ghost use Rattle.std.specs.Option.{option_copied};
 ghost use Rattle.command_lines.specs.FileUrl.{Names};
 ghost use Rattle.programs.specs.Lines.{IsExplained, IsLineOfPath, IsLineOfUrl, verbosity, words_of_url};
 ghost use Rattle.programs.specs.Number.{IsOfNumber};
-ghost use Rattle.programs.specs.Status.{HasStatus};
 ghost use Rattle.programs.specs.Words.{AsksNothing, HasNoNumber, IsAsked, IsNoPick, IsNoUrl, IsNoWindow, IsOfWords, IsPick, IsWindow, ahead_number, asked_window, blocks_number, requests_number};
 
 use crate::bounds::bounds;
@@ -17,6 +16,7 @@ use crate::local::{check_server, is_plain_file, server_of_file, source_of};
 use crate::negative::refused_words;
 use crate::number::{number, number_or, with_range};
 use crate::output::write_text;
+use crate::unread::Unread;
 use clap::error::ErrorKind;
 use client_sockets::Socket;
 use cog_client::{Client, Pieces, Query};
@@ -25,8 +25,8 @@ use command_lines::{
     file_word, is_url, read_line_with_headers, words_instead,
 };
 use range_cache::{MAX_CAPACITY, MIN_CAPACITY};
-use read_command::{Area, Asked, Exchanges, Part, ReadError, Text};
-use read_progress::{Came, Noted, NotedNet, Printing, Verbosity};
+use read_command::{Area, Asked, Exchanges, Part, Text};
+use read_progress::{Noted, NotedNet, Printing, Verbosity};
 use std::alloc::{AllocError, Global};
 use std::io;
 use std::net::{Net, TcpStream};
@@ -167,19 +167,9 @@ where
         client.keep_open();
         socket.keep_open();
     }
-    text_of_source(rt, &net, line, numbers, client, socket, is_url)
-}
-
-/// Returns the fault where no report stands after all of `requests` requests to a URL. `came` is what the last one brought. `refusal` is
-/// why the last connection wasn't made, if it wasn't.
-fn no_report(came: &Came, refusal: Option<io::Error>, requests: u32) -> Exit
-    ensures { HasStatus result 4 }
-{
-    match (came, refusal) {
-        (_, Some(error)) => Exit::NoConnection(error),
-        (Came::Unsent | Came::Nothing, None) => Exit::NoAnswer,
-        (Came::NotUsed(why), None) => Exit::NotUsed(*why),
-        (Came::Brought(_, _), None) => Exit::TooFewRequests(requests),
+    match text_of_source(rt, &net, line, numbers, client, socket, is_url) {
+        Ok(text) => Ok(text),
+        Err(unread) => Err(unread.exit(net.refusal(), numbers.requests, is_url)),
     }
 }
 
@@ -192,7 +182,7 @@ fn text_of_source<'c, R, P: Pieces + Drop>(
     client: &'c mut Client,
     source: P,
     is_url: bool,
-) -> Result<Text<'c>, Exit>
+) -> Result<Text<'c>, Unread>
 where
     R: Clock + Eprint + AllocGlobal,
 {
@@ -209,10 +199,10 @@ where
     };
     match exchanges.text(client, &mut noted, numbers.asked) {
         Ok(text) => Ok(text),
-        Err(ReadError::NoReport) if is_url => {
-            Err(no_report(&noted.came(), net.refusal(), numbers.requests))
+        Err(error) => {
+            let came = noted.came();
+            Err(Unread { error, came })
         }
-        Err(error) => Err(Exit::from(error)),
     }
 }
 
@@ -260,8 +250,10 @@ where
     let server = server_of_file(rt, path)?;
     let source = source_of(rt.alloc(), &server);
     let net = NotedNet::new(rt);
-    let text = text_of_source(rt, &net, line, numbers, client, source, true)?;
-    write_text(rt, line, &text)
+    match text_of_source(rt, &net, line, numbers, client, source, true) {
+        Ok(text) => write_text(rt, line, &text),
+        Err(unread) => Err(unread.exit(None, numbers.requests, true)),
+    }
 }
 
 /// Returns what a URL names. Fails with `NotAFileUrl`, or with `Memory`.
@@ -383,6 +375,24 @@ fn explained<R: AllocGlobal>(rt: &R, ended: Result<(), Exit>, client: &Client) -
     }
 }
 
+/// Returns `words` with a server and a name for the path at `index`, and `describe` before them with `is_alone`.
+fn words_of_path<'a>(
+    alloc: Global,
+    words: &[&'a str],
+    index: usize,
+    is_alone: bool,
+) -> Result<Vec<&'a str>, AllocError>
+    requires { index < length words.now }
+{
+    if is_alone {
+        let instead = ["describe", local::SERVER, local::NAME];
+        words_instead(alloc, words, index, &instead)
+    } else {
+        let instead = [local::SERVER, local::NAME];
+        words_instead(alloc, words, index, &instead)
+    }
+}
+
 /// Runs the program on words of which the one at `index` is the path of a file of the disk, which stands for a server and a name. With
 /// `is_alone` it stands for `describe`, too.
 fn run_path<R>(rt: &R, words: &[&str], index: usize, is_alone: bool) -> Result<(), Exit>
@@ -390,13 +400,7 @@ where
     R: Files + Clock + Print + Eprint + AllocGlobal + Net<Stream = TcpStream>,
     requires { index < length words.now }
 {
-    let described = ["describe", local::SERVER, local::NAME];
-    let instead = if is_alone {
-        &described[..]
-    } else {
-        &described[1..]
-    };
-    let named = words_instead(rt.alloc(), words, index, instead)?;
+    let named = words_of_path(rt.alloc(), words, index, is_alone)?;
     let read = read_words(rt, &named)?;
     let line = line_of_path(read.line);
     run_local(rt, &line, &read.headers, words[index])

@@ -17,6 +17,7 @@ mod origin;
 mod output;
 mod quick;
 mod stored;
+mod unread;
 mod world_file;
 
 pub use cogworld::write_log;

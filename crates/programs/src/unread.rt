@@ -1,0 +1,40 @@
+//! Why `cogread` has no text of a file.
+ghost use Rattle.programs.specs.Status.{HasStatus, IsExitOf};
+
+use crate::exit::Exit;
+use read_command::ReadError;
+use read_progress::Came;
+use std::io;
+
+/// Says why there is no text of a file, and what the last exchange brought.
+#[derive(Drop)]
+pub struct Unread {
+    pub error: ReadError,
+    pub came: Came,
+}
+
+impl Unread {
+    /// Returns the fault of the program. For a URL that of `NoReport`, after all of `requests` requests, says what the last one brought.
+    /// `refusal` is why the last connection wasn't made, if it wasn't.
+    pub fn exit(&self, refusal: Option<io::Error>, requests: u32, is_url: bool) -> Exit
+        ensures { IsExitOf self.now.error is_url result }
+    {
+        match self.error {
+            ReadError::NoReport if is_url => no_report(&self.came, refusal, requests),
+            error => Exit::from(error),
+        }
+    }
+}
+
+/// Returns the fault where no report stands after all of `requests` requests to a URL. `came` is what the last one brought. `refusal` is
+/// why the last connection wasn't made, if it wasn't.
+fn no_report(came: &Came, refusal: Option<io::Error>, requests: u32) -> Exit
+    ensures { HasStatus result 4 }
+{
+    match (came, refusal) {
+        (_, Some(error)) => Exit::NoConnection(error),
+        (Came::Unsent | Came::Nothing, None) => Exit::NoAnswer,
+        (Came::NotUsed(why), None) => Exit::NotUsed(*why),
+        (Came::Brought(_, _), None) => Exit::TooFewRequests(requests),
+    }
+}
