@@ -67,7 +67,7 @@ const FAULTS: [FaultRow<'static>; 50] = [
         2,
     ),
     ("cogread info .", "cogread: can't read .: it isn't a plain file. Give http://HOST/PATH, the path of a file, or SERVER NAME\n", 2),
-    ("cogserve --listen nowhere a", "cogserve: can't listen at nowhere: invalid socket address. Give --listen HOST:PORT, as 127.0.0.1:8080\n", 1),
+    ("cogserve --listen nowhere a", "cogserve: can't listen at nowhere: invalid socket address. Give --listen HOST:PORT, as 127.0.0.1:0 for any free port\n", 1),
     // As it was before there were URLs: a server and a name.
     ("cogread info http://h/a b", "cogread: refused 1\n", 2),
 ];
