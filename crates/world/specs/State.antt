@@ -80,7 +80,7 @@ IsDeliveryKeeping None client cut i n old new = Quiet n effects.Skipped old new
 IsDeliveryKeeping (Some a) client cut i n old new =
     AtClient (receiver (Some a) client) (Keeping (DeliversWithKeeping (cut_at cut a.text.items) i n.effect)) i n old new
 
--- a client's check, whose request keeps what is demanded of it
+-- a client's check that may be made, as `CanCheck` says
 pub record IsCheckOfKeeping (catalogue : Catalogue) (sent i : ℕ) (c : ClientState) (k : AnsweredCheck) : Type 0 where
   pub seen : IsCheckOf catalogue sent i c k
   pub lawful : CanCheck (host_of c) (name_of c) (fields_of c) k.tag
