@@ -71,8 +71,8 @@ pub record GoesOn (old new : ClientState) : Type 0 where
 abbrev pub IsIdle : ClientState → Type 0
 IsIdle c = (query_of c ≡ None) ⊎ IsSome (report_of c)
 
--- What a client asks for that looks `ahead` blocks ahead. Without a revision that is the first 65,536 bytes. With one it is what
--- one range lacks, and at most `ahead` missing blocks after it.
+-- What a client asks for that looks `ahead` blocks ahead. Without a revision that is the first 65,536 bytes. With one it is the first run
+-- of missing blocks of one range, and at most `ahead` missing blocks after it.
 abbrev pub IsAsked : ClientState → Option Revision → ℕ → Span → Type 0
 IsAsked c None ahead span = span ≡ first_span
 IsAsked c (Some v) ahead span = (range : Extent) × IsMissing (blocks_of c) v.complete range ahead span

@@ -28,7 +28,7 @@ abbrev pub current_by : List ℕ → Result (List ℕ) Why → Current
 current_by tag (Err w) = Unknown (NotUsed w)
 current_by tag (Ok seen) = if bytes_eq tag seen then Same else Other
 
--- What an answer to the client's check says. Without a revision nothing is known.
+-- What an answer to the client's check says. Without a revision the result is unknown.
 abbrev pub IsCurrent : Option (List ℕ) → List ℕ → Current → Type 0
 IsCurrent None text current = current ≡ Unknown NoRevision
 IsCurrent (Some tag) text current =

@@ -55,8 +55,8 @@ pub record GoesOnKeeping (old new : ClientState) : Type 0 where
 abbrev pub ComesFirst : Extent → List Extent → Type 0
 ComesFirst r rs = slice_get rs 0 ≡ Some r
 
--- The range that the client needs next, of whatever file it knows, isn't all there. The span is what this range lacks, and at most `ahead`
--- blocks after it, of ranges that are needed later.
+-- The range that the client needs next, of whatever file it knows, isn't all there. The span is its first run of missing blocks, and at
+-- most `ahead` blocks after it, of ranges that are needed later.
 pub record Lacks (c : ClientState) (v : Revision) (ahead : ℕ) (span : Span) : Type 0 where
   pub range : Extent
   pub next : (f : List ℕ) → Knows f c → ComesFirst range (to_come c f)
@@ -65,7 +65,7 @@ pub record Lacks (c : ClientState) (v : Revision) (ahead : ℕ) (span : Span) : 
   pub needed : (f : List ℕ) → Knows f c → AreTouched (to_come c f) span
 
 -- What a client asks for that looks `ahead` blocks ahead. Without a revision that is the first 65,536 bytes. With one it is what
--- the next range lacks, and what later ranges lack after it.
+-- `Lacks` says of the next range and of later ones.
 abbrev pub AsksFor : ClientState → Option Revision → ℕ → Span → Type 0
 AsksFor c None ahead span = span ≡ first_span
 AsksFor c (Some v) ahead span = Lacks c v ahead span
