@@ -96,7 +96,7 @@ ClientsAreAnswered =
     → IsAnswer catalogue (request_with true host name extra first last tag ++ more) response
     ↔ (response ≡ response_to_client (published name catalogue) first last tag)
 
--- the same for a connection that may go on: only `close` of the answer differs
+-- the same whether the connection is to end or may go on: only `close` of the answer differs
 abbrev pub RequestsAreAnswered : Type 0
 RequestsAreAnswered =
     (catalogue : Catalogue) (close : Bool) (host name : List ℕ) (extra : List FieldLine) (more : List ℕ) (first last : ℕ) (tag : Option (List ℕ))
