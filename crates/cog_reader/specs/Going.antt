@@ -111,7 +111,7 @@ abbrev pub IsFilled : CachedReader → ℕ → Option Span → Type 0
 IsFilled w ahead None = (query_of w.reader ≡ None) ⊎ IsSome (outcome_of w.reader)
 IsFilled w ahead (Some span) = IsStopped w ahead span
 
--- If `ahead` is 0, the span is what one range lacks.
+-- If `ahead` is 0, the span is the first run of missing blocks of one range.
 abbrev pub LooksAtOneRange : Type 0
 LooksAtOneRange = (b : Blocks) (file_length : ℕ) (r : Extent) (span : Span) (m : IsMissing b file_length r 0 span) →
     (m.to ≡ m.lacks.to) × (span.last ≡ m.missing.last)
