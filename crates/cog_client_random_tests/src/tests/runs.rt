@@ -45,7 +45,7 @@ impl<'a> Net<'a> {
         }
     }
 
-    /// Keeps an answer. Where there are eight already, it takes the place of another.
+    /// Keeps an answer. It may take the place of another one, and at most eight are kept.
     fn keep(&mut self, answer: Vec<u8>) -> Result<(), AllocError> {
         let at = self.numbers.below(8);
         match self.kept.get_mut(at) {

@@ -141,7 +141,7 @@ fn reads_the_options_of_cogread_anywhere(rt: HostRuntime) -> Result<(), Fail> {
     expect_descriptions(&rt)
 }
 
-/// A line of `cogread` with these field lines.
+/// A line of `cogread` with two field lines.
 const WITH_HEADERS: &str = "cogread info --header A:1 h:1 --keep a --header=b:";
 
 #[test]
