@@ -1,9 +1,9 @@
-//! Aids of tests: `expect_eq`, in the place of `assert_eq`, which is written out where it stands, and proved there each time.
+//! Aids of tests: `expect_eq`, instead of `assert_eq`. `assert_eq` is written out where it stands, and proved there each time.
 #![tactic(auto)]
 
 use std::fmt::{Debug, Display, Error, Formatter, Write};
 
-/// Two values that are to be equal and aren't, as the end of a test shows them.
+/// Two values that should be equal and aren't, as the end of a test prints them.
 #[derive(Drop)]
 pub struct Unequal<'a, T> {
     left: &'a T,
@@ -20,7 +20,7 @@ impl<T: Debug> Display for Unequal<'_, T> {
     }
 }
 
-/// The two values, where they aren't equal.
+/// Returns the two values where they aren't equal.
 pub fn difference<'a, T: PartialEq>(left: &'a T, right: &'a T) -> Option<Unequal<'a, T>> {
     if *left == *right {
         return None;
@@ -28,7 +28,7 @@ pub fn difference<'a, T: PartialEq>(left: &'a T, right: &'a T) -> Option<Unequal
     Some(Unequal { left, right })
 }
 
-/// As `assert_eq`, but that nothing is known behind it.
+/// Compares as `assert_eq` does. Nothing is known of the values after it.
 #[macro_export]
 macro_rules! expect_eq {
     ($rt:expr; $left:expr, $right:expr $(,)?) => {

@@ -4,16 +4,16 @@ use Rattle.http_range.specs.declared.frame.Frame.{Frame}
 use Rattle.http_range.specs.declared.reading.Why.TheVariants.{Head}
 use Rattle.http_range.specs.Frame.{ReadsFrame, is_interim}
 
--- how many bytes are taken of an answer: its head, and the body that it announces. Of one that isn't used the head is taken
+-- how many bytes are taken of an answer: its head and the announced body; of an interim answer, and of one that isn't used, only the head
 abbrev pub size_of : Frame → ℕ
 size_of frame = if is_interim frame then frame.size else frame.size + unwrap_or frame.length 0
 
--- bytes, and what their head says
+-- the bytes, and what their head says
 pub record Answer : Type 0 where
   pub bytes : List ℕ
   pub frame : Frame
 
--- They are one answer, or an interim one, and nothing else.
+-- The bytes are one answer, final or interim, and nothing else.
 pub record IsAnswer (a : Answer) : Type 0 where
   pub reads : ReadsFrame a.bytes (Ok a.frame)
   pub whole : length a.bytes ≡ size_of a.frame
@@ -22,15 +22,15 @@ abbrev pub AreAnswers : List Answer → Type 0
 AreAnswers [] = ⊤
 AreAnswers (a ∷ rest) = IsAnswer a × AreAnswers rest
 
--- it answers a request
+-- the answer is a final one
 abbrev pub is_final : Answer → Bool
 is_final a = not (is_interim a.frame)
 
--- the texts of those that do
+-- the texts of the final answers
 abbrev pub finals : List Answer → List (List ℕ)
 finals answers = map (λ a. a.bytes) (filter is_final answers)
 
--- all bytes of texts, one after another
+-- all bytes of the texts, one after another
 abbrev pub joined : List (List ℕ) → List ℕ
 joined [] = []
 joined (t ∷ ts) = t ++ joined ts
@@ -38,7 +38,7 @@ joined (t ∷ ts) = t ++ joined ts
 abbrev pub bytes_of : List Answer → List ℕ
 bytes_of answers = joined (map (λ a. a.bytes) answers)
 
--- The connection may go on after each of them.
+-- The connection may go on after each of them that is final.
 abbrev pub LetGoOn : List Answer → Type 0
 LetGoOn [] = ⊤
 LetGoOn (a ∷ rest) = (is_final a ≡ true → a.frame.closes ≡ false) × LetGoOn rest
@@ -47,7 +47,7 @@ LetGoOn (a ∷ rest) = (is_final a ≡ true → a.frame.closes ≡ false) × Let
 abbrev pub IsShort : List ℕ → Type 0
 IsShort front = (frame : Frame) → ReadsFrame front (Ok frame) → length front < size_of frame
 
--- nothing of a whole head: no answer can be told from these bytes
+-- there is no whole head: no answer can be read from these bytes
 abbrev pub IsUndecided : List ℕ → Type 0
 IsUndecided head = (frame : Frame) → ¬ (ReadsFrame head (Ok frame))
 
@@ -55,7 +55,7 @@ IsUndecided head = (frame : Frame) → ¬ (ReadsFrame head (Ok frame))
 abbrev pub is_timeout : Frame → Bool
 is_timeout frame = frame.status == 408
 
--- These bytes are no answer to a request that was sent on a connection that is kept: no head, or a status that says that the server waited
--- in vain.
+-- These bytes are no answer to a request that was sent on a connection that is kept. They have no head, or status code 408: the server
+-- gave up waiting.
 abbrev pub IsNoAnswer : List ℕ → Type 0
 IsNoAnswer head = ReadsFrame head (Err Head) ⊎ ((frame : Frame) × ReadsFrame head (Ok frame) × (is_timeout frame ≡ true))

@@ -1,4 +1,4 @@
--- Whole runs of a client's end: what went over each connection, and which answer is whose.
+-- Whole runs of a client's end: what went over each connection, and which request each answer belongs to.
 use Rattle.std.specs.Prelude.{◌≡◌, ⊤, ◌≤◌, ◌+◌, ◌-◌, ◌<◌, ℕ, Bool, true, false, List, [], ◌∷◌, ◌++◌, length, take, drop, Option, Some, None, Ok}
 use Rattle.http_range.specs.declared.frame.Frame.{Frame}
 use Rattle.http_range.specs.Frame.{ReadsFrame, is_interim}
@@ -16,16 +16,16 @@ pub record Connection : Type 0 where
   pub asked : List (List ℕ)
   pub texts : List (List ℕ)
 
--- front is what came of the answer under way
+-- `front` is what came of the answer under way
 pub record Past : Type 0 where
   pub before : List Connection
   pub now : Connection
   pub front : List ℕ
   pub status : Status
 
--- The bytes that were written are the requests, one after another. What came are answers, and a front of one, after which something may be
--- lost. Those that are no interim ones are the texts: the text at a place is the answer to the request at that place. After each but the
--- last the connection may go on.
+-- The bytes that were written are the requests, one after another. What came are answers, a front of one, and then bytes that may be lost.
+-- The texts are the final answers. The text at a place answers the request at that place. The connection may go on after each answer
+-- but the last.
 pub record IsInOrder (c : Connection) (unwritten front lost : List ℕ) : Type 0 where
   pub wrote : c.wrote ++ unwritten ≡ joined c.asked
   pub answers : List Answer
@@ -42,7 +42,7 @@ abbrev pub AreOver : List Connection → Type 0
 AreOver [] = ⊤
 AreOver (c ∷ cs) = IsOver c × AreOver cs
 
--- the front of an answer: what came of its head, or the head and a part of the body, of which so much is to come
+-- a front of an answer: what came of its head; or the head and a part of the body, with `left` bytes to come
 abbrev pub IsUnderWay : Option ℕ → Status → List ℕ → Type 0
 IsUnderWay None s front = front ≡ s.head
 IsUnderWay (Some left) s front =
@@ -57,7 +57,7 @@ pub record IsLive (p : Past) : Type 0 where
   pub out : p.status.out ≡ drop (length p.now.texts) p.now.asked
   pub begun : (left : ℕ) → p.status.left ≡ Some left → length p.now.texts < length p.now.asked
 
--- it is, or the last one is over
+-- the connection is open, or the last one is over
 abbrev pub IsNow : Bool → Past → Type 0
 IsNow true p = IsLive p
 IsNow false p = IsOver p.now
@@ -72,7 +72,7 @@ unused = record { wrote = []; came = []; asked = []; texts = [] }
 abbrev pub none_yet : Past
 none_yet = record { before = []; now = unused; front = []; status = over [] }
 
--- ---- events: the calls, with what they were given, and of bytes that came what was made of them
+-- ---- events: the calls, with what they were given; for bytes that came also what they were taken as
 
 pub data Event : Type 0 where
   Asked : (text : List ℕ) → Event
@@ -84,7 +84,7 @@ pub data Event : Type 0 where
   Gone : Event
   Ended : Event
 
--- a call may be made there, and made that of the bytes
+-- the call may be made then, and for bytes it has this result
 abbrev pub CanHappen : Event → Status → Type 0
 CanHappen (Asked text) s = ⊤
 CanHappen (SentEarly text) s = s.is_open ≡ true
@@ -101,12 +101,12 @@ asks Sends text c = record c { asked = c.asked ++ text ∷ [] }
 asks Sent text c = c
 asks Anew text c = c
 
--- what came of the answer under way, with more bytes
+-- what came of the answer under way, with these bytes
 abbrev pub front_with : Part → List ℕ → List ℕ → List ℕ
 front_with Interim front bytes = []
 front_with part front bytes = front ++ bytes
 
--- what each event makes of it; the status is what the call's contract says
+-- what an event makes of the past; the status is what the contract of the call says
 abbrev pub happened : Event → Past → Past
 happened (Asked text) p = record p { now = asks (turn_of text p.status) text p.now; status = after_ask text p.status }
 happened (SentEarly text) p = record p { now = asks Sends text p.now; status = sends text p.status }
@@ -137,7 +137,7 @@ abbrev pub run : List Event → Past → Past
 run [] p = p
 run (e ∷ es) p = run es (happened e p)
 
--- each event happens where it may
+-- each event is one that may happen then
 abbrev pub CanRun : List Event → Past → Type 0
 CanRun [] p = ⊤
 CanRun (e ∷ es) p = CanHappen e p.status × CanRun es (happened e p)
@@ -146,7 +146,7 @@ CanRun (e ∷ es) p = CanHappen e p.status × CanRun es (happened e p)
 abbrev pub AnswersAreInOrder : Type 0
 AnswersAreInOrder = (events : List Event) → CanRun events none_yet → IsOrderly (run events none_yet)
 
--- Bytes are answers in one way, up to one that isn't whole: it doesn't matter in which pieces they come.
+-- Bytes can be divided into answers, with a short rest, in only one way. So it doesn't matter in which pieces they come.
 abbrev pub CutsDoNotMatter : Type 0
 CutsDoNotMatter = (answers others : List Answer) (front rest : List ℕ) → AreAnswers answers → AreAnswers others
     → IsShort front → IsShort rest → bytes_of answers ++ front ≡ bytes_of others ++ rest → answers ≡ others

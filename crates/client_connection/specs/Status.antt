@@ -13,20 +13,20 @@ use Rattle.client_connection.specs.declared.parts.Part.TheVariants.{Again, Begun
 
 pub record Status : Type 0 where
   pub is_open : Bool  -- a connection is there
-  pub kept : Bool  -- and went on after an answer
+  pub kept : Bool  -- and it went on after an answer
   pub waits : List ℕ  -- the bytes of requests that aren't written yet
   pub out : List (List ℕ)  -- the requests without a whole answer; the answer to the first comes next
   pub head : List ℕ  -- what came of the head of the next answer
   pub left : Option ℕ  -- how much of its body is to come; None while its head isn't whole
-  pub closes : Bool  -- the connection ends with it
-  pub interims : ℕ  -- the interim answers before it
+  pub closes : Bool  -- the connection ends with this answer
+  pub interims : ℕ  -- how many interim answers came before it
 
--- no connection, on which these requests are to be sent
+-- there is no connection, and these requests are to be sent on the next one
 abbrev pub over : List (List ℕ) → Status
 over texts =
     record { is_open = false; kept = false; waits = []; out = texts; head = []; left = None; closes = false; interims = 0 }
 
--- no connection, and this much of a head, behind which nothing comes
+-- there is no connection, and this came of a head after which nothing comes
 abbrev pub cut : List ℕ → Status
 cut head = record (over []) { head = head }
 
@@ -40,7 +40,7 @@ is_between s = is_none s.left && is_empty s.head
 
 -- ---- requests
 
--- how a request comes where these are out: it was sent early, it is to be sent, or another one was sent
+-- what becomes of a request while these are out: it is sent if none is out, or it was sent early, or it begins anew
 abbrev pub turn_after : List (List ℕ) → List ℕ → Turn
 turn_after [] text = Sends
 turn_after (first ∷ rest) text = if bytes_eq first text then Sent else Anew
@@ -60,7 +60,7 @@ turned Anew text s = over (text ∷ [])
 abbrev pub after_ask : List ℕ → Status → Status
 after_ask text s = turned (turn_of text s) text s
 
--- a new connection is there, on which the first request is sent
+-- there is a new connection, on which the first request is sent
 abbrev pub after_open : Status → Status
 after_open s = record (over (take 1 s.out)) { is_open = true; waits = joined (take 1 s.out) }
 
@@ -69,7 +69,7 @@ after_write n s = record s { waits = drop n s.waits }
 
 -- ---- answers
 
--- What comes of a head with its last bytes. On a connection that was kept, a request is sent once more after what is no answer to it.
+-- What the bytes that came of a head are taken as. On a connection that was kept, a request is sent again after what is no answer to it.
 abbrev pub TakesHead : Part → List ℕ → Status → Status → Type 0
 TakesHead Head head old new = ReadsFrame head (Err Cut) × (new ≡ record old { head = head })
 TakesHead Interim head old new =
@@ -99,7 +99,7 @@ after_finish s = if s.closes then over [] else record s { kept = true; out = dro
 
 -- ---- the end of a connection
 
--- its first request is sent once more: the connection was kept, and nothing came of the answer
+-- the first request is sent once more: the connection was kept, and nothing came of the answer
 abbrev pub is_again : Status → Bool
 is_again s = s.kept && is_between s && not (is_empty s.out)
 

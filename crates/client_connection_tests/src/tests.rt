@@ -1,11 +1,11 @@
-//! Bytes that come, and what is made of them.
+//! Bytes that come on a connection, and the answers that are made of them.
 use assertion_support::expect_eq;
 use client_connection::{ClientConnection, Part, Turn};
 use std::alloc::Global;
 use std::process::Abort;
 use std::test::Fail;
 
-/// An answer of four bytes.
+/// An answer with a body of four bytes.
 macro_rules! answer {
     ($line:literal, $more:literal, $body:literal) => {
         concat!($line, "\r\nETag: \"1\"\r\nContent-Range: bytes 0-3/9\r\nContent-Length: 4\r\n", $more, "\r\n", $body)
@@ -45,15 +45,15 @@ fn connect(end: &mut ClientConnection) -> Result<(), Fail> {
     Ok(())
 }
 
-/// What came of an answer, and how it ended.
+/// The text of an answer, and the last part of it.
 #[derive(Drop)]
 struct Heard {
     text: Vec<u8>,
     last: Part,
 }
 
-/// Takes what came, in pieces of at most `size` bytes, until an answer is whole or the connection is over. Returns it, and how many bytes
-/// were left.
+/// Takes bytes in pieces of at most `size`, until an answer is whole or the connection is over. Returns the answer, and how many bytes were
+/// left.
 fn hear(
     alloc: Global,
     end: &mut ClientConnection,
@@ -81,8 +81,8 @@ fn hear(
     Ok((heard, rest.len()))
 }
 
-/// An answer on a connection that is new, or was kept: its last part, what is to come of the body, and whether the connection goes on
-/// after it.
+/// A row has an answer, and whether its connection was kept. Then come the answer's last part, the bytes of the body that are still to
+/// come, and whether the connection goes on after it.
 type Row = (&'static str, bool, Part, Option<u64>, bool);
 
 const ROWS: [Row; 12] = [
@@ -100,7 +100,7 @@ const ROWS: [Row; 12] = [
     ("HTTP/1.1 20", true, Part::Head, None, true),
 ];
 
-/// Brings a connection to its first request, or to the one after an answer.
+/// Brings a connection to its first request, or, where it is kept, to the one after an answer.
 fn begin(alloc: Global, end: &mut ClientConnection, kept: bool) -> Result<(), Fail> {
     end.ask(b"first")?;
     connect(end)?;
@@ -139,7 +139,7 @@ fn send_third(end: &mut ClientConnection) -> Result<(), Fail> {
     Ok(())
 }
 
-/// Two answers to requests of which the second was sent early, with interim ones before them.
+/// Answers to two requests, of which the second was sent early. Interim answers stand before them.
 const BOTH: &str = concat!(
     "HTTP/1.1 100 Continue\r\n\r\nHTTP/1.1 103 Early Hints\r\n\r\n",
     "HTTP/1.1 206 Partial Content\r\nETag: \"1\"\r\nContent-Range: bytes 0-3/9\r\nContent-Length: 4\r\n\r\nabcd",
@@ -153,7 +153,7 @@ const FIRST: &str =
 const SECOND: &str =
     "HTTP/1.1 206 Partial Content\r\nETag: \"1\"\r\nContent-Range: bytes 4-8/9\r\nContent-Length: 5\r\n\r\nefghi";
 
-/// Takes the next answer of what came, and ends it.
+/// Takes the next answer of the bytes that came, and ends it.
 fn hear_next(
     rt: &(impl Abort + AllocGlobal),
     end: &mut ClientConnection,
@@ -184,7 +184,7 @@ fn takes_the_same_answers_in_pieces_of_any_size(rt: HostRuntime) -> Result<(), F
     Ok(())
 }
 
-/// Sixteen interim answers are dropped, and the one after them is refused.
+/// Expects that sixteen interim answers are dropped, and that the one after them is refused.
 #[test]
 fn drops_sixteen_interim_answers(rt: HostRuntime) -> Result<(), Fail> {
     let mut end = ClientConnection::new(rt.alloc());
@@ -199,7 +199,7 @@ fn drops_sixteen_interim_answers(rt: HostRuntime) -> Result<(), Fail> {
     Ok(())
 }
 
-/// How requests come to a connection that was kept: one that was sent early has its turn, another one doesn't.
+/// Expects that a request that was sent early has its turn on a kept connection, and that another one doesn't.
 #[test]
 fn gives_requests_their_turn(rt: HostRuntime) -> Result<(), Fail> {
     let mut end = ClientConnection::new(rt.alloc());
@@ -216,7 +216,7 @@ fn gives_requests_their_turn(rt: HostRuntime) -> Result<(), Fail> {
     Ok(())
 }
 
-/// A request is sent once more where its connection was kept and nothing came, and not twice.
+/// Expects that a request is sent once more, and not twice, where its connection was kept and no byte of the answer came.
 #[test]
 fn sends_a_request_once_more(rt: HostRuntime) -> Result<(), Fail> {
     let mut end = ClientConnection::new(rt.alloc());

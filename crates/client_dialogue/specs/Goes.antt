@@ -1,4 +1,4 @@
--- What a call of a dialogue does: whatever happened before, something more happened after it.
+-- What a call of a dialogue does: whatever happened before, something more has happened after it.
 use Rattle.std.specs.Prelude.{◌≡◌, ⊤, ◌⊎◌, ◌<◌, ℕ, true, false, List, [], ◌∷◌, ◌++◌, length, Some, IsSome}
 use Rattle.extents.specs.declared.span.Span.{Span}
 use Rattle.client_connection.specs.Run.{Event}
@@ -16,7 +16,7 @@ use Rattle.client_dialogue.specs.declared.step.Exchanged.{Exchanged}
 use Rattle.client_dialogue.specs.declared.step.Step.{Step}
 use Rattle.client_dialogue.specs.declared.step.Step.TheVariants.{Connect, Exchanged as AnExchange, Look, More, Over, Read, Write}
 
--- the bytes that came by events
+-- the bytes that came in the events
 abbrev pub came_by : List Event → List ℕ
 came_by [] = []
 came_by (Came part bytes after ∷ es) = bytes ++ came_by es
@@ -26,13 +26,13 @@ came_by (e ∷ es) = came_by es
 abbrev pub IsEarlyFor : ClientState → List ℕ → Type 0
 IsEarlyFor c text = (span : Span) × IsEarly c span × IsRequestFor c span text
 
--- Each text that was sent early by the events is such a request.
+-- Each text that was sent early in the events is such a request.
 abbrev pub AreEarlyFor : ClientState → List Event → Type 0
 AreEarlyFor c [] = ⊤
 AreEarlyFor c (SentEarly text ∷ es) = IsEarlyFor c text × AreEarlyFor c es
 AreEarlyFor c (e ∷ es) = AreEarlyFor c es
 
--- These bytes came and were taken; or they were dropped with their connection.
+-- These bytes came and were taken, or they were dropped with their connection.
 abbrev pub AreTaken : List ℕ → List Event → Status → Type 0
 AreTaken bytes es s = (came_by es ≡ bytes) ⊎ ((came_by es ≡ []) × (s.is_open ≡ false))
 
@@ -40,20 +40,20 @@ AreTaken bytes es s = (came_by es ≡ bytes) ⊎ ((came_by es ≡ []) × (s.is_o
 abbrev pub Stays : List Round → List Round → Type 0
 Stays before after = after ≡ before
 
--- An exchange was made that did this to the client.
+-- An exchange was made, with this result.
 abbrev pub MakesOne : Delivered → List Round → List Round → Type 0
 MakesOne what before after = (e : Exchange) × (e.what ≡ what) × (after ≡ Made e ∷ before)
 
--- No round ended, or one in which there was no request.
+-- No round ended, or only one without a request.
 abbrev pub MakesNone : List Round → List Round → Type 0
 MakesNone before after = (after ≡ before) ⊎ (after ≡ Rested ∷ before)
 
--- No round ended, or one in which memory was wanting.
+-- No round ended, or only one in which memory ran out.
 abbrev pub Fails : List Round → List Round → Type 0
 Fails before after = (after ≡ before) ⊎ (after ≡ Unasked ∷ before)
     ⊎ ((request text : List ℕ) × ((after ≡ Stopped request text ∷ before) ⊎ (after ≡ LetGo request text ∷ before)))
 
--- A history goes on by these bytes, and the client is left so. What was sent early are requests of this client.
+-- The history goes on by these bytes, and the client is `c` then. What was sent early are requests of this client.
 pub record Continues (rounds : List Round → List Round → Type 0) (bytes : List ℕ) (h k : History) (s : Status) (c : ClientState) : Type 0 where
   pub more : List Event
   pub events : k.events ≡ h.events ++ more
@@ -61,7 +61,7 @@ pub record Continues (rounds : List Round → List Round → Type 0) (bytes : Li
   pub early : AreEarlyFor c more
   pub made : rounds h.rounds k.rounds
 
--- Whatever happened before, it goes on so.
+-- Whatever happened before, the history goes on so.
 abbrev pub Goes : (List Round → List Round → Type 0) → List ℕ → Talk → ClientState → Talk → ClientState → Type 0
 Goes rounds bytes t c u d = (start : ClientState) (allowed : ℕ) (h : History) → IsHistory start allowed h t c
     → (k : History) × Continues rounds bytes h k u.status d × IsHistory start allowed k u d
@@ -77,7 +77,7 @@ IsUsed (Took blocks) = 0 < blocks
 IsUsed Restarted = ⊤
 IsUsed (Ignored why) = ⊥
 
--- what holds where a driver is to do this; a connection is there after an exchange only where its answer was used
+-- what holds after each step that a driver is given; after an exchange there is a connection only if its answer was used
 abbrev pub Says : Step → Talk → ClientState → Type 0
 Says Connect t c = (t.asked ≡ true) × (t.status.is_open ≡ false)
 Says Look t c = (t.asked ≡ true) × (t.status.is_open ≡ true)
@@ -87,24 +87,24 @@ Says More t c = t.asked ≡ true
 Says (AnExchange e) t c = (t.asked ≡ false) × (t.status.is_open ≡ true → IsUsed e.delivered)
 Says Over t c = (t.asked ≡ false) × ((t.exchanges ≡ 0) ⊎ IsIdle c)
 
--- After More bytes were taken, or no exchange was under way. An exchange ends by bytes that came, or after a head that was whole.
+-- After `More` bytes were taken, or no exchange was under way. An exchange ends by bytes that came, or after a whole head.
 abbrev pub Advances : Talk → ℕ → Step → Type 0
 Advances t n step = (step ≡ More → (0 < n) ⊎ (t.asked ≡ false))
     × ((e : Exchanged) → step ≡ AnExchange e → IsSome t.status.left ⊎ (0 < n))
 
--- While a connection stays, what waits to be written stays. More may wait after it.
+-- While a connection stays, what waits to be written stays. More may be added after it.
 abbrev pub KeepsWaits : Status → Status → Type 0
 KeepsWaits s t = t.is_open ≡ true → (s.is_open ≡ true) × ((more : List ℕ) × (t.waits ≡ s.waits ++ more))
 
--- If an exchange is over, its status is that of this head.
+-- If an exchange is over, its status code is that of this head.
 abbrev pub HasStatusOf : List ℕ → Step → Type 0
 HasStatusOf head step = (e : Exchanged) → step ≡ AnExchange e → IsStatusOf head e.status
 
--- The head is what was there of it, or that with these bytes.
+-- The head is what had come of it, or this with the new bytes.
 abbrev pub TellsStatus : List ℕ → List ℕ → Step → Type 0
 TellsStatus head bytes step = HasStatusOf head step ⊎ HasStatusOf (head ++ bytes) step
 
--- Between exchanges a query of any client may begin, of which so many exchanges are allowed.
+-- Between exchanges a query of any client may begin, with `exchanges` exchanges allowed.
 abbrev pub BeginsAnew : ℕ → Talk → Talk → Type 0
 BeginsAnew exchanges t u = (start : ClientState) (allowed : ℕ) (h : History) (c d : ClientState) → IsHistory start allowed h t c
     → (k : History) × ((more : List Event) × (k.events ≡ h.events ++ more)) × (k.rounds ≡ []) × IsHistory d exchanges k u d

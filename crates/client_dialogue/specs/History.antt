@@ -1,4 +1,4 @@
--- What happened on a client's connections, and to the client: which request got which answer.
+-- What happened on a client's connections, and to the client: which answer each request got.
 use Rattle.std.specs.Prelude.{◌≡◌, ⊤, ◌⊎◌, ◌+◌, ℕ, Bool, true, false, if◌then◌else◌, List, [], ◌∷◌, ◌++◌, length, Option, Some, None}
 use Rattle.client_connection.specs.Answers.{Answer, AreAnswers, bytes_of, finals}
 use Rattle.client_connection.specs.Status.{Status}
@@ -8,14 +8,14 @@ use Rattle.cog_client.specs.Client.{ClientState}
 use Rattle.cog_client.specs.FedClient.{Fed}
 use Rattle.cog_client.specs.Keeps.{DeliversKeeping, RequestsKeeping, StopsAsking, StopsDelivery}
 
--- an exchange: the request, what came of the answer, whether that is all of it, and what it did to the client
+-- an exchange: the request, what came of the answer, whether that is the whole answer, and what it did to the client
 pub record Exchange : Type 0 where
   pub request : List ℕ
   pub text : List ℕ
   pub whole : Bool
   pub what : Delivered
 
--- one turn of the client: it made an exchange, or had no request. Or memory was wanting: for the request, for an answer that came, or so
+-- One round of the client: it made an exchange, or had no request. Or memory ran out: for the request, for an answer that came, or so
 -- that the rest of an answer was let go.
 pub data Round : Type 0 where
   Made : (e : Exchange) → Round
@@ -24,7 +24,7 @@ pub data Round : Type 0 where
   Stopped : (request text : List ℕ) → Round
   LetGo : (request text : List ℕ) → Round
 
--- what the client's calls did in it
+-- what the client's calls did in a round
 abbrev pub IsRound : Round → ClientState → ClientState → Type 0
 IsRound (Made e) old new = (asking : ClientState) × RequestsKeeping old (Some e.request) asking × DeliversKeeping asking e.text e.what new
 IsRound Rested old new = RequestsKeeping old None new
@@ -33,7 +33,7 @@ IsRound (Stopped request text) old new =
     (asking : ClientState) × RequestsKeeping old (Some request) asking × StopsDelivery asking text new
 IsRound (LetGo request text) old new = (asking : ClientState) × RequestsKeeping old (Some request) asking × Fed asking text new
 
--- They follow each other, the last one first, and nothing else is done to the client.
+-- The rounds follow each other, the last one first, and nothing else is done to the client.
 abbrev pub AreRounds : List Round → ClientState → ClientState → Type 0
 AreRounds [] old new = new ≡ old
 AreRounds (r ∷ rs) old new = (mid : ClientState) × AreRounds rs old mid × IsRound r mid new
@@ -47,10 +47,10 @@ begun (Unasked ∷ rs) = begun rs
 begun (Stopped request text ∷ rs) = begun rs + 1
 begun (LetGo request text ∷ rs) = begun rs + 1
 
--- ---- whose answer it is
+-- ---- which request an answer belongs to
 
--- On the connection the request stands at one place, and what came after the answers to the requests before it begins with the text: the
--- text is a front of the answer to that request, or the whole answer.
+-- The request has a place on the connection. What came there after the answers to the requests before it begins with the text. So the text
+-- is a front of the answer to this request, or all of it.
 pub record IsBegunOn (e : Exchange) (c : Connection) : Type 0 where
   pub asked_before : List (List ℕ)
   pub asked_after : List (List ℕ)
@@ -61,7 +61,7 @@ pub record IsBegunOn (e : Exchange) (c : Connection) : Type 0 where
   pub rest : List ℕ
   pub came : c.came ≡ bytes_of answers ++ (e.text ++ rest)
 
--- On the connection the request and the text stand at one place: the text is the whole answer to that request.
+-- On the connection request and text have the same place: the text is the whole answer to this request.
 pub record IsPlaced (e : Exchange) (c : Connection) : Type 0 where
   pub asked_before : List (List ℕ)
   pub asked_after : List (List ℕ)
@@ -78,11 +78,11 @@ abbrev pub IsSomewhere : Exchange → List Connection → Type 0
 IsSomewhere e [] = ⊥
 IsSomewhere e (c ∷ cs) = IsOn e c ⊎ IsSomewhere e cs
 
--- what came is of the answer to its own request, on one of these connections; or nothing came of it
+-- what came is of the answer to its own request, on one of these connections; or nothing came
 abbrev pub IsOwn : Exchange → List Connection → Type 0
 IsOwn e cs = IsSomewhere e cs ⊎ ((e.whole ≡ false) × (e.text ≡ []))
 
--- so it is of each exchange
+-- this holds of each exchange
 abbrev pub AreOwn : List Round → List Connection → Type 0
 AreOwn [] cs = ⊤
 AreOwn (Made e ∷ rs) cs = IsOwn e cs × AreOwn rs cs
@@ -99,7 +99,7 @@ pub record Talk : Type 0 where
   pub asked : Bool
   pub exchanges : ℕ
 
--- what happened so far: on the connections; in which rounds, the last one first; the client after them; and the request under way
+-- what happened so far: on the connections; in rounds, the last one first; the client after these; and the request under way
 pub record History : Type 0 where
   pub events : List Event
   pub rounds : List Round
@@ -112,7 +112,7 @@ past_of h = run h.events none_yet
 abbrev pub connections_of : Past → List Connection
 connections_of p = p.now ∷ p.before
 
--- what of an answer was fed: nothing while its head isn't whole
+-- what was fed of an answer: nothing while its head isn't whole
 abbrev pub fed_of : Option ℕ → List ℕ → List ℕ
 fed_of None front = []
 fed_of (Some left) front = front
@@ -121,15 +121,15 @@ fed_of (Some left) front = front
 abbrev pub IsFresh : Status → Type 0
 IsFresh s = s.is_open ≡ false → (s.left ≡ None) × (s.head ≡ [])
 
--- Between exchanges the client is as the last one left it. In one it was asked for the request, whose answer comes next, and was fed
--- what came of that answer.
+-- Between exchanges the client is as the last round left it. Within one it made the request whose answer comes next, and was fed what came
+-- of that answer.
 abbrev pub IsUnder : Bool → ClientState → List ℕ → List ℕ → Status → ClientState → Type 0
 IsUnder false last request front s c = (c ≡ last) × (s.left ≡ None)
 IsUnder true last request front s c =
     (asking : ClientState) × RequestsKeeping last (Some request) asking × Fed asking (fed_of s.left front) c
     × ((early : List (List ℕ)) × (s.out ≡ request ∷ early)) × IsFresh s
 
--- So a dialogue and a client came about, from a client as it was when the query began, of which at most so many exchanges were allowed.
+-- How a dialogue and a client came about since the client's query began, when it was `start` and `allowed` exchanges were allowed.
 pub record IsHistory (start : ClientState) (allowed : ℕ) (h : History) (t : Talk) (c : ClientState) : Type 0 where
   pub can : CanRun h.events none_yet
   pub status : (past_of h).status ≡ t.status

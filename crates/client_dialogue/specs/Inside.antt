@@ -1,4 +1,4 @@
--- What the parts of a call do: to a client in the midst of an answer, of which a front was fed to it, and to what is known of the dialogue.
+-- What the parts of a call do to the dialogue, and to a client within an answer, a front of which was fed to it.
 use Rattle.std.specs.Prelude.{◌≡◌, ◌⊎◌, ℕ, false, List, ◌++◌, Some, []}
 use Rattle.client_connection.specs.Status.{after_finish, over}
 use Rattle.client_connection.specs.declared.parts.Part.{Part}
@@ -17,15 +17,15 @@ use Rattle.client_dialogue.specs.declared.step.Step.TheVariants.{Exchanged as An
 abbrev pub Feeds : List ℕ → ClientState → ClientState → Type 0
 Feeds bytes c d = (s : ClientState) (p : List ℕ) → Fed s p c → Fed s (p ++ bytes) d
 
--- Memory was wanting for them, or after them.
+-- Memory ran out for these bytes, or after them.
 abbrev pub Halts : List ℕ → ClientState → ClientState → Type 0
 Halts bytes c d = (s : ClientState) (p : List ℕ) → Fed s p c → StopsDelivery s (p ++ bytes) d
 
--- They end the answer, which did this.
+-- These bytes end the answer, with this result.
 abbrev pub Concludes : List ℕ → Delivered → ClientState → ClientState → Type 0
 Concludes bytes what c d = (s : ClientState) (p : List ℕ) → Fed s p c → DeliversKeeping s (p ++ bytes) what d
 
--- no exchange is under way, and no connection is there
+-- no exchange is under way, and there is no connection
 abbrev pub given_up : Talk → Talk
 given_up t = record t { status = over []; asked = false }
 
@@ -49,7 +49,7 @@ IsFedBy Body bytes step t c u d = (step ≡ More) × (u ≡ t) × Feeds bytes c 
 IsFedBy Refused bytes step t c u d = IsConcluded step t c u d
 IsFedBy Stray bytes step t c u d = IsConcluded step t c u d
 
--- Memory was wanting for the bytes of a part.
+-- Memory ran out for the bytes of a part.
 abbrev pub IsHaltedBy : Part → List ℕ → Talk → ClientState → Talk → ClientState → Type 0
 IsHaltedBy Head bytes t c u d = ⊥
 IsHaltedBy Interim bytes t c u d = ⊥

@@ -8,13 +8,13 @@ use Rattle.cog_client.specs.Client.{ClientAgrees, ClientState, name_of}
 use Rattle.client_dialogue.specs.History.{AreOwn, History, IsHistory, Round, Talk, connections_of, past_of}
 use Rattle.client_dialogue.specs.History.Round.{LetGo, Made, Rested, Stopped, Unasked}
 
--- A dialogue without a connection, in which nothing is under way, has the history in which nothing happened.
+-- A dialogue without a connection, with nothing under way, has the history in which nothing happened.
 abbrev pub HistoriesBegin : Type 0
 HistoriesBegin = (c : ClientState) (t : Talk) → t.status ≡ over [] → t.asked ≡ false
     → IsHistory c t.exchanges (record { events = []; rounds = []; last = c; request = [] }) t c
 
 -- On each connection the answers are those to its own requests, in their order. What the client took as the answer to a request begins
--- where the answer at that request's place does; and where it was taken as whole, it is that answer.
+-- where the answer at that request's place does. If it was taken as whole, it is that answer.
 abbrev pub AnswersAreOwn : Type 0
 AnswersAreOwn = (start : ClientState) (allowed : ℕ) (h : History) (t : Talk) (c : ClientState) → IsHistory start allowed h t c
     → IsOrderly (past_of h) × AreOwn h.rounds (connections_of (past_of h))
@@ -28,7 +28,7 @@ AreHonest c book (Unasked ∷ rs) = AreHonest c book rs
 AreHonest c book (Stopped request text ∷ rs) = IsReadAs (IsPieceOfBook (name_of c) book) text × AreHonest c book rs
 AreHonest c book (LetGo request text ∷ rs) = IsReadAs (IsPieceOfBook (name_of c) book) text × AreHonest c book rs
 
--- Where all that came is so, a client that agreed with the book agrees with it after each round.
+-- If all that came is read so, a client that agreed with the book agrees with it after the rounds. The ETags of the book are distinct.
 abbrev pub HistoriesAreTrue : Type 0
 HistoriesAreTrue = (start : ClientState) (allowed : ℕ) (h : History) (t : Talk) (c : ClientState) → IsHistory start allowed h t c
     → (book : Book) → HasDistinctTags book → ClientAgrees start book → AreHonest start book h.rounds → ClientAgrees h.last book

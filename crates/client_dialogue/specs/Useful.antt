@@ -1,4 +1,4 @@
--- What is read of the head of an answer: its status, and how much of its body is of use to a client.
+-- What is read of the head of an answer: its status code, and how many bytes of its body a client can use.
 use Rattle.std.specs.Prelude.{◌≡◌, ◌+◌, ◌-◌, ◌^◌, ℕ, List, Bool, false, if◌then◌else◌, not, min, max, Option, Some, None, Result, Ok, Err}
 use Rattle.std.specs.Str.{bytes_eq}
 use Rattle.extents.specs.declared.span.Span.{Span}
@@ -13,7 +13,7 @@ abbrev pub status_read : Result Frame Why → ℕ
 status_read (Ok frame) = frame.status
 status_read (Err why) = 0
 
--- the status code of the head, or 0 where none is whole
+-- the status code of the head, or 0 if there is no whole head
 pub record IsStatusOf (head : List ℕ) (status : ℕ) : Type 0 where
   pub read : Result Frame Why
   pub reads : ReadsFrame head read
@@ -24,12 +24,12 @@ abbrev pub is_other : Option (List ℕ) → Announced → Bool
 is_other None head = false
 is_other (Some tag) head = not (bytes_eq tag head.tag)
 
--- the bytes of the body up to the last one that is asked for
+-- how many bytes of the body there are up to the last byte that is asked for
 abbrev pub up_to : Span → Announced → ℕ
 up_to span head = min (span.last + 1) (2 ^ 64 - 1) - head.first
 
--- Of the body as many bytes are of use as reach to the last one that is asked for, and at least a front; of another revision a front; and
--- none where the head announces no piece of a file.
+-- How many bytes of the body a client can use: up to the last byte that is asked for, and at least `FRONT`. If it asks for nothing, or
+-- the head is of another revision, these are `FRONT` bytes. They are none if the head announces no piece of a file.
 abbrev pub useful_by : Option Span → Option (List ℕ) → Result Announced Why → ℕ
 useful_by asked tag (Err why) = 0
 useful_by None tag (Ok head) = FRONT

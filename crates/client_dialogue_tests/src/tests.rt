@@ -1,4 +1,4 @@
-//! Connections that bring what a table says, and the steps that are to be done with them.
+//! Connections that bring what a table says, and the steps that follow.
 mod checks;
 mod driver;
 mod kept_connections;

@@ -1,4 +1,4 @@
--- What others know of a source over sockets.
+-- What callers know of a source over sockets.
 use Rattle.std.specs.Prelude.{◌≡◌, ◌⊎◌, ◌≤◌, ◌+◌, ℕ, Bool, false, List, ◌∷◌, length, take, drop, IsSome}
 use Rattle.client_connection.specs.Status.{Status, Takes}
 use Rattle.client_connection.specs.declared.parts.Part.TheVariants.{Body}
@@ -12,7 +12,7 @@ exchanges_of s = s.exchanges
 abbrev pub server_of : {R : Type 0} → Socket R → List ℕ
 server_of s = s.server.now
 
--- it keeps its connections
+-- the socket keeps its connections
 abbrev pub keeps : {R : Type 0} → Socket R → Bool
 keeps s = s.keeps
 
@@ -24,11 +24,11 @@ connection_of s = s.connection
 abbrev pub IsFirstOut : {R : Type 0} → List ℕ → Socket R → Type 0
 IsFirstOut request s = (early : List (List ℕ)) × ((connection_of s).out ≡ request ∷ early)
 
--- The connection wasn't kept after an answer.
+-- The connection didn't go on after an answer.
 abbrev pub IsFresh : {R : Type 0} → Socket R → Type 0
 IsFresh s = (connection_of s).kept ≡ false
 
--- Requests that were out still are, or the first one of them alone.
+-- The requests that were out still are, or only the first of them.
 abbrev pub KeepsOut : {R : Type 0} → Socket R → Socket R → Type 0
 KeepsOut s t = ((connection_of t).out ≡ (connection_of s).out) ⊎ ((connection_of t).out ≡ take 1 (connection_of s).out)
 
@@ -36,21 +36,21 @@ KeepsOut s t = ((connection_of t).out ≡ (connection_of s).out) ⊎ ((connectio
 abbrev pub handed_of : {R : Type 0} → Socket R → ℕ
 handed_of s = s.handed
 
--- The next bytes of the head are handed on, which came before.
+-- Bytes of the head that came before are handed on: the next ones.
 abbrev pub HandsHead : {R : Type 0} → List ℕ → Status → Socket R → Socket R → Type 0
 HandsHead bytes reached s t = (bytes ≡ take (length bytes) (drop (handed_of s) reached.head))
     × (handed_of t ≡ handed_of s + length bytes) × (connection_of t ≡ reached)
 
--- After all of the head, bytes are handed on that the connection takes as the next ones of the body.
+-- After the whole head, bytes are handed on that the connection takes as the next ones of the body.
 abbrev pub HandsBody : {R : Type 0} → List ℕ → Status → Socket R → Socket R → Type 0
 HandsBody bytes reached s t = (length reached.head ≤ handed_of s) × (handed_of t ≡ handed_of s) × Takes Body bytes reached (connection_of t)
 
--- The bytes are the next ones of the answer: of its head, once it is whole or the connection is over, or of its body.
+-- The bytes are the next ones of the answer. They are of its head once that is whole or the connection is over, or of its body.
 pub record Hands {R : Type 0} (bytes : List ℕ) (s t : Socket R) : Type 0 where
   pub reached : Status
   pub stays : IsSome (connection_of s).left → reached ≡ connection_of s
   pub next : HandsHead bytes reached s t ⊎ HandsBody bytes reached s t
 
--- it speaks for no file
+-- a socket speaks for no book
 abbrev pub Nothing : Type 0
 Nothing = ⊥

@@ -1,4 +1,4 @@
--- What a client keeps of an answer that comes in pieces, between two of them.
+-- What a client keeps between two pieces of an answer.
 use Rattle.std.specs.Prelude.{ℕ, List, [], ⊤}
 use Rattle.http_range.specs.declared.reading.Why.{Why}
 use Rattle.http_range.specs.declared.reading.Why.TheVariants.{Cut}
@@ -8,15 +8,15 @@ use Rattle.cog_client.specs.declared.case.Case.{Case}
 use Rattle.cog_client.specs.declared.delivered.Ignored as why
 use Rattle.cog_client.specs.declared.delivered.Ignored.TheVariants.{NotUsed}
 
--- The bytes of a head that isn't whole; why what follows matters no more; or the head, its case, how far the body has come, and
--- the room for the block that is cut.
+-- It keeps the bytes of a head that isn't whole, or why what follows doesn't matter. Or it keeps the head, its case, how far the body
+-- has come, and the room for the block that is cut.
 pub data Feed : Type 0 where
   waits : List ℕ → Feed
   unused : Why → Feed
   passed : why.Ignored → Feed
   follows : Announced → Case → Body → List ℕ → Feed
 
--- no byte of an answer
+-- no byte of an answer is kept
 abbrev pub nothing_fed : Feed
 nothing_fed = waits []
 

@@ -1,4 +1,4 @@
--- The body of an answer that comes in pieces, between two of them.
+-- The body of an answer that comes in pieces, as it is kept between two pieces.
 use Rattle.std.specs.Prelude.{if◌then◌else◌, ◌/◌, [], ◌≡◌, ◌⊎◌, ℕ, ◌+◌, ◌-◌, ◌*◌, ◌<◌, ◌≤◌, true, false, List, ◌++◌, length, take, drop}
 use Rattle.extents.specs.declared.span.Span.{Span}
 use Rattle.extents.specs.declared.limits.TheConstants.{BLOCK_SIZE}
@@ -12,16 +12,16 @@ use Rattle.cog_client.specs.Take.{brought_by, stored_count, stored_front, stored
 use Rattle.cog_client.specs.Client.{IsFew}
 use Rattle.cog_client.specs.Fed.{part_of, piece_with}
 
--- blocks with these stored
+-- the blocks after the new ones are stored
 abbrev pub with_stored : List Block → Blocks → Blocks
 with_stored new b = record b { entries = stored b.capacity new b.entries }
 
--- the next place is in the file, and so are all bytes that are still to come
+-- The next position lies within the file, and so do all bytes that are still to come.
 pub record IsSoundBody (b : Body) : Type 0 where
   pub inside : b.next + b.left ≤ b.complete
   pub few : IsFew b.span
 
--- Of block n the bytes so far are kept at the front of the part: it begins in the body, isn't whole yet, and is wanted.
+-- The bytes of block `n` that came so far are kept at the front of the part. The block begins in the body, isn't whole yet, and is wanted.
 pub record KeepsPart (head : Announced) (body : List ℕ) (b : Body) (part : List ℕ) (now : Blocks) (n : ℕ) : Type 0 where
   pub begins : head.first ≤ n * BLOCK_SIZE
   pub some : n * BLOCK_SIZE < b.next
@@ -29,7 +29,7 @@ pub record KeepsPart (head : Announced) (body : List ℕ) (b : Body) (part : Lis
   pub wanted : is_wanted now head.complete b.span n ≡ true
   pub bytes : take (b.next - n * BLOCK_SIZE) part ≡ begun head.first body n
 
--- None of block n is kept: none came of it, it is whole, it began before the body, or it isn't wanted.
+-- Nothing of block `n` is kept: none of it came, it is whole, it began before the body, or it isn't wanted.
 abbrev pub KeepsNone : Announced → Body → Blocks → ℕ → Type 0
 KeepsNone head b now n =
     (b.next ≡ n * BLOCK_SIZE) ⊎ ((head.complete ≤ b.next) ⊎ ((n * BLOCK_SIZE < head.first)
@@ -47,7 +47,7 @@ pub record IsCutAt (head : Announced) (body : List ℕ) (b : Body) (part : List 
   pub kept : b.keeps ≡ true → KeepsPart head body b part now block
   pub none : b.keeps ≡ false → KeepsNone head b now block
 
--- The body so far, of an answer with this head, brought its blocks to those that there were at its start.
+-- The body so far, of an answer with this head, made the blocks `now` of the blocks `start`.
 pub record IsBody (head : Announced) (start : Blocks) (body : List ℕ) (b : Body) (part : List ℕ) (now : Blocks) : Type 0 where
   pub complete : b.complete ≡ head.complete
   pub next : b.next ≡ head.first + length body
@@ -56,35 +56,35 @@ pub record IsBody (head : Announced) (start : Blocks) (body : List ℕ) (b : Bod
   pub counted : b.count ≡ stored_count (piece_with head body) b.span start
   pub holds : now ≡ stored_of (piece_with head body) b.span start
 
--- Memory was wanting before the last block of this body was stored.
+-- Memory ran out before the last block of this body was stored.
 abbrev pub IsStopped : Announced → Span → Blocks → List ℕ → Blocks → Type 0
 IsStopped head span start body now =
     (k : ℕ) × (k < length (brought_by (piece_with head body) span)) × (now ≡ stored_front k (piece_with head body) span start)
 
--- With bytes behind it, whatever came before.
+-- The body goes on by the bytes `more`, whatever came before.
 abbrev pub Extends : Body → List ℕ → Blocks → List ℕ → Body → List ℕ → Blocks → Type 0
 Extends old part before more new rest after =
     (head : Announced) (start : Blocks) (body : List ℕ) → IsBody head start body old part before
     → IsBody head start (body ++ more) new rest after
 
--- Memory was wanting in the blocks of these bytes, whatever came before.
+-- Memory ran out at the blocks of the bytes `more`, whatever came before.
 abbrev pub Stops : Body → List ℕ → Blocks → List ℕ → Blocks → Type 0
 Stops old part before more after =
     (head : Announced) (start : Blocks) (body : List ℕ) → IsBody head start body old part before
     → IsStopped head old.span start (body ++ more) after
 
--- a block begins at the place, or nothing follows
+-- a block begins at this position, or nothing follows
 abbrev pub IsSeam : ℕ → List ℕ → Type 0
 IsSeam at more = ((n : ℕ) × (at ≡ n * BLOCK_SIZE)) ⊎ (length more ≡ 0)
 
--- the last of the bytes are kept, which stand in block n
+-- the last of the bytes are kept: those of block `n`
 pub record KeepsOf (bytes : List ℕ) (b : Body) (part : List ℕ) (now : Blocks) (n : ℕ) : Type 0 where
   pub some : n * BLOCK_SIZE < b.next
   pub lacks : b.next < b.complete
   pub wanted : is_wanted now b.complete b.span n ≡ true
   pub tail : take (b.next - n * BLOCK_SIZE) part ≡ drop (length bytes - (b.next - n * BLOCK_SIZE)) bytes
 
--- Of bytes that begin at a block's edge those are kept that follow the last whole block, where that block is wanted.
+-- Of bytes that begin at the edge of a block, those after the last whole block are kept, if their block is wanted.
 pub record KeepsTail (bytes : List ℕ) (b : Body) (part : List ℕ) (now : Blocks) : Type 0 where
   pub block : ℕ
   pub begins : block * BLOCK_SIZE ≤ b.next
@@ -93,7 +93,7 @@ pub record KeepsTail (bytes : List ℕ) (b : Body) (part : List ℕ) (now : Bloc
   pub none : b.keeps ≡ false → (b.next ≡ block * BLOCK_SIZE)
       ⊎ ((b.complete ≤ b.next) ⊎ (is_wanted now b.complete b.span block ≡ false))
 
--- What is kept is the part of the definition: the bytes so far of a wanted block that isn't whole yet.
+-- What is kept is what `part_of` says: the bytes so far of a wanted block that isn't whole yet.
 abbrev pub PartsAreKept : Type 0
 PartsAreKept = (head : Announced) (start : Blocks) (body : List ℕ) (b : Body) (part : List ℕ) (now : Blocks)
     → IsBody head start body b part now → kept_of b part ≡ part_of head now b.span body

@@ -7,16 +7,16 @@ use Rattle.cog_client.specs.declared.case.Case.{Case}
 use Rattle.cog_client.specs.declared.case.Case.TheVariants.{Ignored, Adopted, Restarted, Accepted}
 use Rattle.cog_client.specs.declared.delivered.Ignored.TheVariants.{OtherRevision, OtherLength, NotAsked}
 
--- what is read at a server: the tag and the length of one publication
+-- what a client reads: the ETag and the length of one publication
 pub record Revision : Type 0 where
   pub tag : List ℕ
   pub complete : ℕ
 
--- no byte of the piece's body is asked for
+-- the piece's body has no byte of the span
 abbrev pub is_beside : Span → SeenPiece → Bool
 is_beside s p = nat_le (min (p.first + length p.body) (s.last + 1)) (max p.first s.first)
 
--- the cases of a piece, where there is a revision: another tag, another length, beside what is asked, and else it is taken
+-- the case of a piece, if there is a revision: another ETag, another length, no byte of the span, or else it is taken
 abbrev pub case_of_piece : Revision → Span → SeenPiece → Case
 case_of_piece v s p =
     if not (bytes_eq v.tag p.tag) then (if p.whole then Restarted else Ignored OtherRevision)
@@ -24,7 +24,7 @@ case_of_piece v s p =
     else if is_beside s p then Ignored NotAsked
     else Accepted
 
--- The first case that applies to a piece: nothing is asked, no revision yet, or those above.
+-- The first case that applies to a piece: nothing is asked for, there is no revision yet, or one of those above.
 abbrev pub case_of : Option Revision → Option Span → SeenPiece → Case
 case_of v None p = Ignored NotAsked
 case_of None (Some s) p = Adopted

@@ -14,28 +14,28 @@ use Rattle.cog_client.specs.declared.delivered.Unknown as unknown
 use Rattle.cog_client.specs.declared.delivered.Unknown.TheVariants.{NotUsed, NoRevision}
 use Rattle.cog_client.specs.Client.{ClientState, fields_of, host_of, name_of, tag_of}
 
--- the numbers under which unknown answers are told
+-- the numbers of the reasons why the result of a check is unknown
 abbrev pub number_of_unknown : unknown.Unknown → ℕ
 number_of_unknown (NotUsed w) = number_of_why w
 number_of_unknown NoRevision = 12
 
--- the text of the client's check, none without a revision
+-- the text of the client's check, if it has a revision
 abbrev pub check_of : ClientState → Option (List ℕ)
 check_of c = option_map (check_with (host_of c) (name_of c) (fields_of c)) (tag_of c)
 
--- what the answer to a check that is read so says to a client with this tag
+-- what the answer to a check says to a client with this ETag, by how the answer is read
 abbrev pub current_by : List ℕ → Result (List ℕ) Why → Current
 current_by tag (Err w) = Unknown (NotUsed w)
 current_by tag (Ok seen) = if bytes_eq tag seen then Same else Other
 
--- What an answer to the client's check says: nothing without a revision.
+-- What an answer to the client's check says. Without a revision the result is unknown.
 abbrev pub IsCurrent : Option (List ℕ) → List ℕ → Current → Type 0
 IsCurrent None text current = current ≡ Unknown NoRevision
 IsCurrent (Some tag) text current =
     (reading : Result (List ℕ) Why) × ReadsCheck text reading × (current ≡ current_by tag reading)
 
--- What an honest answer that says "same" tells: it carries the tag of a file, the catalogue that it is of has that file under the
--- name, and the file's tag is the client's.
+-- What holds if an honest answer says "same". It has the ETag of the file of this name. The catalogue that it is of has that file,
+-- and the file's ETag is the client's.
 abbrev pub IsStillThere : Option (List ℕ) → List ℕ → Type 0
 IsStillThere tag text =
     (name : List ℕ) (book : Book) (honest : IsHonest text name book)

@@ -1,4 +1,4 @@
--- The requests that a client makes early: before the answer came to what it asks for now.
+-- The requests that a client makes early: before the answer came to its last request.
 use Rattle.std.specs.Prelude.{◌≡◌, ℕ, ◌+◌, ◌-◌, ◌*◌, ◌<◌, ◌≤◌, ◌⊎◌, false, true, List, [], Some, IfSome, IsSomeAnd, slice_get}
 use Rattle.std.specs.List.{All, AllZip}
 use Rattle.extents.specs.declared.span.Span.{Span}
@@ -14,10 +14,10 @@ use Rattle.cog_reader.specs.Early.{AreApart, IsRunIn, LeavesNothing, LeavesNothi
 use Rattle.cog_client.specs.Client.{ClientState, Knows, ahead_of, asked_of, blocks_of, closes, fields_of, host_of, name_of, reader_of, revision_of, tag_of, to_come}
 use Rattle.cog_client.specs.Calls.{request_for}
 
--- In a file of this length the span is of the blocks from one number up to another, which begin in it, and are 65 at most. It lies behind
--- what is asked for now. None of its blocks is there, and each touches a range that the client needs of whatever file it knows. They begin
--- in one of those ranges, and go on behind their run in it by at most as many blocks as the client looks ahead; all have room beside the
--- blocks of that range that are there then.
+-- The span of an early request, in a file of `complete` bytes. It has the blocks from number `from` up to `to`: at most 65, which begin in
+-- the file. It lies after `asked`, what is asked for now. None of its blocks is there. Each touches a range that the client still needs,
+-- whatever file it knows. The blocks begin in one of those ranges. They go on after their run in it by at most as many blocks as the client
+-- looks ahead. All have room beside the blocks of that range that are there then.
 pub record IsNeededEarly (c : ClientState) (complete : ℕ) (asked span : Span) : Type 0 where
   pub from : ℕ
   pub to : ℕ
@@ -34,42 +34,41 @@ pub record IsNeededEarly (c : ClientState) (complete : ℕ) (asked span : Span) 
   pub comes : (f : List ℕ) → Knows f c → slice_get (to_come c f) place ≡ Some range
   pub run : IsRunIn (blocks_of c) range (ahead_of c) from to
 
--- such a span of the revision that is read, where the client asks for something now
+-- such a span of the revision that is read, if the client asks for something now
 abbrev pub IsEarly : ClientState → Span → Type 0
 IsEarly c span = IsSomeAnd (asked_of c) (λ asked. IsSomeAnd (revision_of c) (λ v. IsNeededEarly c v.complete asked span))
 
--- Nothing is asked early: requests close their connections, or look no block ahead.
+-- Nothing is asked early: requests close their connections, or the client looks no block ahead.
 abbrev pub AsksNothingEarly : ClientState → Type 0
 AsksNothingEarly c = (closes c ≡ true) ⊎ (ahead_of c ≡ 0)
 
--- Before each of these spans nothing is left out of what the client's reader wants from now on.
+-- Before each of these spans, nothing that the client's reader wants from now on is left out.
 abbrev pub LeaveNothing : ClientState → List Span → Type 0
 LeaveNothing c spans = IfSome (reader_of c) (λ w. IfSome (asked_of c) (λ asked. All (LeavesNothing w asked spans) spans))
 
--- Nothing in reach of what the client's reader wants from now on is left out of these spans.
+-- These spans leave out nothing in reach that the client's reader wants from now on.
 abbrev pub LeaveNothingInReach : ClientState → List Span → Type 0
 LeaveNothingInReach c spans = IfSome (reader_of c) (λ w. IfSome (asked_of c) (λ asked. LeavesNothingInReach w asked spans))
 
--- Such spans, each of which lies behind all those before it, and nothing is left out between them; there are none where nothing is asked
--- early.
+-- Such spans, each of which lies after all those before it. Nothing is left out between them. There are none if nothing is asked early.
 pub record AreEarly (c : ClientState) (spans : List Span) : Type 0 where
   pub each : All (IsEarly c) spans
   pub apart : AreApart spans
   pub order : LeaveNothing c spans
   pub none : AsksNothingEarly c → spans ≡ []
 
--- The text is the client's request for the span, under the condition that the file still has the revision's tag.
+-- The text is the client's request for the span. With a revision it has the condition that the file still has its ETag.
 pub record IsRequestFor (c : ClientState) (span : Span) (text : List ℕ) : Type 0 where
   pub asks : Some text ≡ request_for c (Some span)
   pub lawful : CanAsk (host_of c) (name_of c) (fields_of c) span.first span.last (tag_of c)
 
--- The texts are requests for such spans, one for each, in their order.
+-- The texts are requests for such spans: one for each, in order.
 pub record AreEarlyRequests (c : ClientState) (texts : List (List ℕ)) : Type 0 where
   pub spans : List Span
   pub early : AreEarly c spans
   pub asks : AllZip (IsRequestFor c) spans texts
 
--- They are requests for such spans, and nothing in reach is left out of these, where the client asks early.
+-- The texts are requests for such spans. If the client asks early, the spans leave out nothing in reach.
 pub record AreAllInReach (c : ClientState) (texts : List (List ℕ)) : Type 0 where
   pub requests : AreEarlyRequests c texts
   pub end : ¬ AsksNothingEarly c → LeaveNothingInReach c requests.spans

@@ -1,4 +1,4 @@
--- How an answer that comes in pieces is taken: by its head, and by the body as far as it has come.
+-- How an answer that comes in pieces is taken: by its head, and by the body as far as it came.
 use Rattle.std.specs.Prelude.{◌≡◌, ◌≢◌, ◌⊎◌, ℕ, ◌+◌, ◌*◌, ◌/◌, ◌≤◌, not, ◌==◌, ◌&&◌, nat_le, nat_lt, min, max, Bool, if◌then◌else◌, true, List, [], ◌++◌, length, take as front, drop, Option, Some, None, IfSome, Ok, ⊤}
 use Rattle.std.specs.Str.{bytes_eq}
 use Rattle.extents.specs.declared.span.Span.{Span}
@@ -22,14 +22,14 @@ use Rattle.cog_client.specs.Take.{Holding, asked_or_first, base_of, first_span, 
 
 -- ---- by the head
 
--- the case of a head where there is a revision: another tag, another length, and else it is taken
+-- the case of a head, if there is a revision: another ETag, another length, or else it is taken
 abbrev pub case_of_revision : Revision → Announced → Case
 case_of_revision v head =
     if not (bytes_eq v.tag head.tag) then (if head.whole then Restarted else Ignored OtherRevision)
     else if not (v.complete == head.complete) then Ignored OtherLength
     else Accepted
 
--- The case that the head alone tells: whether the body is beside what is asked for is known at its end.
+-- The case that the head alone gives. Whether the body has a byte of the asked span is known only at its end.
 abbrev pub case_of_head : Option Revision → Option Span → Announced → Case
 case_of_head v None head = Ignored NotAsked
 case_of_head None (Some s) head = Adopted
@@ -40,26 +40,26 @@ abbrev pub piece_with : Announced → List ℕ → SeenPiece
 piece_with head body =
     record { tag = head.tag; whole = head.whole; first = head.first; complete = head.complete; body = body }
 
--- bytes of the same file from another place on
+-- bytes of the same file from the position `place` on
 abbrev pub piece_at : Announced → ℕ → List ℕ → SeenPiece
 piece_at head place bytes =
     record { tag = head.tag; whole = head.whole; first = place; complete = head.complete; body = bytes }
 
--- The case of an answer is that of its head, save that it may be beside what is asked for.
+-- The case of an answer is that of its head, except that its body may have no byte of the asked span.
 abbrev pub CaseIsOfHead : Type 0
 CaseIsOfHead = (v : Option Revision) (asked : Option Span) (head : Announced) (body : List ℕ) →
     (case_of v asked (piece_with head body) ≡ case_of_head v asked head)
     ⊎ ((case_of_head v asked head ≡ Accepted) × (case_of v asked (piece_with head body) ≡ Ignored NotAsked)
     × IfSome asked (λ s. is_beside s (piece_with head body) ≡ true))
 
--- What an answer leaves is what the case of its head leaves: a body that is beside what is asked for brings no block.
+-- What an answer leaves is what the case of its head leaves. A body without a byte of the asked span brings no block.
 abbrev pub LeavesByHead : Type 0
 LeavesByHead = (h : Holding) (head : Announced) (body : List ℕ) →
     (take h (Ok (piece_with head body))).leaves ≡ (take_by (case_of_head h.revision h.asked head) h (piece_with head body)).leaves
 
 -- ---- by the body
 
--- More of the body is stored: the block that the cut goes through, and then the blocks of the rest; so they are counted.
+-- More of the body is stored: the block that the cut goes through, and then the blocks of the rest. They are counted in the same way.
 abbrev pub CutsAreStored : Type 0
 CutsAreStored = (head : Announced) (body more : List ℕ) (span : Span) (b : Blocks) (n : ℕ) →
     IsCutIn head.complete head.first body more n →
@@ -71,7 +71,7 @@ CutsAreStored = (head : Announced) (body more : List ℕ) (span : Span) (b : Blo
     × (stored_count (piece_with head (body ++ more)) span b
     ≡ stored_count (piece_with head body) span b + (stored_count cut span before + stored_count rest span (stored_of cut span before)))
 
--- Where the body so far ends at the edge of a block, the blocks of the rest are stored.
+-- If the body so far ends at the edge of a block, the blocks of the rest are stored.
 abbrev pub EdgesAreStored : Type 0
 EdgesAreStored = (head : Announced) (body more : List ℕ) (span : Span) (b : Blocks) →
     IsEdge head.complete (head.first + length body) →
@@ -101,7 +101,7 @@ part_of head blocks span body =
     && is_wanted blocks head.complete span n
     then begun head.first body n else []
 
--- what is asked for from the head on
+-- the span that is asked for once the head is taken
 abbrev pub asked_by : Case → Option Span → Span
 asked_by Restarted asked = first_span
 asked_by Adopted asked = asked_or_first asked
@@ -115,18 +115,18 @@ UsesBody Adopted = ⊤
 UsesBody Restarted = ⊤
 UsesBody Accepted = ⊤
 
--- the reason is told by a head that is whole, or too long
+-- the reason is final: it isn't *cut*, and a head is refused only after 4,096 bytes of it came
 abbrev pub IsSettled : List ℕ → Why → Type 0
 IsSettled bytes w = (w ≢ Cut) × ((w ≡ Head) → HEAD_LIMIT ≤ length bytes)
 
 -- ---- at the end
 
--- no byte of a body of that length is asked for
+-- none of the first `came` bytes of the body is in the span
 abbrev pub is_beside_at : Announced → ℕ → Span → Bool
 is_beside_at head came s = nat_le (min (head.first + came) (s.last + 1)) (max head.first s.first)
 
--- what is told of an answer whose head had this case, of whose body so many bytes came and so many blocks were stored: it may have
--- been beside what was asked for
+-- What is said of an answer whose head had this case, of whose body `came` bytes came and `count` blocks were stored. The body may have
+-- had no byte of the asked span.
 abbrev pub told_at_end : Case → Announced → ℕ → ℕ → Option Span → Delivered
 told_at_end Adopted head came count asked = Took count
 told_at_end Restarted head came count asked = ARestart
@@ -134,7 +134,7 @@ told_at_end (Ignored w) head came count asked = AnIgnored w
 told_at_end Accepted head came count asked =
     if is_beside_at head came (asked_or_first asked) then AnIgnored NotAsked else Took count
 
--- What is told at the end of an answer is what *take* says of the whole of it.
+-- What is said at the end of an answer is what `take` says of the whole of it.
 abbrev pub EndTells : Type 0
 EndTells = (s : Holding) (head : Announced) (body : List ℕ) (count : ℕ) →
     let case = case_of_head s.revision s.asked head in

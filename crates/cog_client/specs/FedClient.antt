@@ -1,4 +1,4 @@
--- What a client holds now, and keeps of an answer, that was in a state when the answer began and to which a front of it came.
+-- What a client holds while an answer comes to it, and what it keeps of this answer.
 use Rattle.std.specs.Prelude.{◌≡◌, ◌⊎◌, ℕ, ◌-◌, List, [], ◌++◌, length, take, Some, Ok}
 use Rattle.http_range.specs.Announced.{Announced, body_behind}
 use Rattle.http_range.specs.Book.{Book, HasDistinctTags}
@@ -17,9 +17,9 @@ use Rattle.cog_client.specs.AnswerPhase.{Feed, nothing_fed, passed, follows}
 use Rattle.cog_client.specs.Steps.{Adopts}
 use Rattle.cog_client.specs.Take.{first_span}
 
--- In what follows s is the client when the answer began, p the front of the answer, and c the client now.
+-- In what follows `s` is the client when the answer began, `p` the front of the answer that came, and `c` the client now.
 
--- the case of the head for that client
+-- the case of the head for the client `s`
 abbrev pub case_for : ClientState → Announced → Case
 case_for s head = case_of_head (revision_of s) (asked_of s) head
 
@@ -27,25 +27,26 @@ case_for s head = case_of_head (revision_of s) (asked_of s) head
 abbrev pub revision_of_head : Announced → Revision
 revision_of_head head = record { tag = head.tag; complete = head.complete }
 
--- what the head makes of the client, before any byte of the body: another revision is read where the case is so, and else nothing changed
+-- What the head makes of the client, before any byte of the body. If the case says so, another revision is read. Or else only the feed
+-- changes.
 abbrev pub Begins : Case → Announced → ClientState → ClientState → Type 0
 Begins (Ignored w) head s mid = ⊥
 Begins Adopted head s mid = Adopts (revision_of_head head) (asked_of s) s mid
 Begins Restarted head s mid = Adopts (revision_of_head head) (Some first_span) s mid
 Begins Accepted head s mid = (e : Feed) × (mid ≡ record s { feed = e })
 
--- There is no head so far, or one that isn't used: nothing else changed.
+-- There is no head so far, or its answer isn't used. Nothing but the feed changed.
 pub record FedHeadless (s : ClientState) (p : List ℕ) (c : ClientState) : Type 0 where
   pub feed : IsHeadless p (feed_of c)
   pub same : c ≡ record s { feed = feed_of c }
 
--- The case of the head passes the body over.
+-- The case of the head says that the body is passed over.
 pub record FedPassed (head : Announced) (s : ClientState) (c : ClientState) : Type 0 where
   pub reason : why.Ignored
   pub is : case_for s head ≡ Ignored reason
   pub same : c ≡ record s { feed = passed reason }
 
--- So much of the body is taken: its blocks are stored over what the head made of the client.
+-- `body` was taken so far: its blocks are stored over what the head made of the client.
 pub record FedBody (head : Announced) (s : ClientState) (body : List ℕ) (c : ClientState) : Type 0 where
   pub taken : Body
   pub part : List ℕ
@@ -56,11 +57,11 @@ pub record FedBody (head : Announced) (s : ClientState) (body : List ℕ) (c : C
   pub is : IsBody head (blocks_of mid) body taken part (blocks_of c)
   pub same : c ≡ record mid { cache = blocks_of c; feed = feed_of c }
 
--- the head is whole, and its case is followed, for so much of the body
+-- the head is whole, and `body` was treated by its case so far
 abbrev pub FedBy : Announced → ClientState → List ℕ → ClientState → Type 0
 FedBy head s body c = FedPassed head s c ⊎ FedBody head s body c
 
--- What a client holds now, and keeps of an answer, that was s when it began and to which the front p of it came.
+-- The client was `s` when the answer began, the front `p` of it came, and the client is `c` now.
 abbrev pub Fed : ClientState → List ℕ → ClientState → Type 0
 Fed s p c =
     FedHeadless s p c ⊎ ((head : Announced) × ReadsHead p (Ok head) × FedBy head s (body_behind head p) c)
@@ -69,7 +70,7 @@ Fed s p c =
 abbrev pub AnswersBeginAnywhere : Type 0
 AnswersBeginAnywhere = (c : ClientState) → feed_of c ≡ nothing_fed → Fed c [] c
 
--- So it is, but for the last bytes, which are still to be taken of the body.
+-- The same, but the last bytes, `rest`, are still to be taken of the body.
 pub record FedAllBut (s : ClientState) (p rest : List ℕ) (c : ClientState) : Type 0 where
   pub head : Announced
   pub reads : ReadsHead p (Ok head)
@@ -80,7 +81,8 @@ pub record FedAllBut (s : ClientState) (p rest : List ℕ) (c : ClientState) : T
 abbrev pub FedBefore : ClientState → List ℕ → List ℕ → ClientState → Type 0
 FedBefore s p rest c = FedHeadless s p c ⊎ FedAllBut s p rest c
 
--- A client agrees with a book in the midst of an answer, too, where what came of it is read as a piece of a file of its name in the book.
+-- A client that agreed with a book of distinct ETags agrees with it within an answer, too. This holds if what came of the answer is read
+-- as a piece of a file of the client's name in the book.
 abbrev pub FrontsKeepAgreement : Type 0
 FrontsKeepAgreement = (s c : ClientState) (p : List ℕ) (book : Book) → Fed s p c → HasDistinctTags book → ClientAgrees s book
     → IsReadAs (IsPieceOfBook (name_of s) book) p → ClientAgrees c book

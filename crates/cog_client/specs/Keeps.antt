@@ -1,4 +1,4 @@
--- What each call of a client keeps of the file that it knows, beside what a caller sees of the call.
+-- What each call of a client keeps of the file that the client knows, beside what a caller sees of the call.
 use Rattle.std.specs.Prelude.{◌≡◌, ℕ, ◌⊎◌, false, List, [], ◌∷◌, ◌++◌, Option, Some, None, IfSome, IsSome, slice_get, IfOk, Result}
 use Rattle.tiff_dir.specs.declared.query.Query.{Query}
 use Rattle.extents.specs.declared.span.Span.{Span}
@@ -25,7 +25,7 @@ use Rattle.cog_reader.specs.Reader.{AreOfOneLevel}
 use Rattle.cog_reader.specs.Going.{AreSame, AreTouched, HasRoom, IsMissing}
 use Rattle.cog_client.specs.Calls.{Delivers, GoesOn, IsIdle, Opens, Requests, SameClient}
 
--- What the query needs is to come, but for what is held, which stays.
+-- What the query needs is still to come, except for what the client holds. That stays.
 pub record OpensKeeping (query : Query) (old new : ClientState) : Type 0 where
   pub seen : Opens query old new
   pub knows : (f : List ℕ) → Knows f old → Knows f new
@@ -36,11 +36,11 @@ pub record OpensKeeping (query : Query) (old new : ClientState) : Type 0 where
 
 -- ---- going on
 
--- No query of the level that is asked of needs more of the file than before.
+-- No query of the level of the client's query needs more of the file than before.
 abbrev pub KeepsRead : List ℕ → ClientState → ClientState → Type 0
 KeepsRead f old new = (asked q : Query) → query_of old ≡ Some asked → AreOfOneLevel f asked q → IsEndOf (unread new f q) (unread old f q)
 
--- what the client holds is still the file's, and what is to come is an end of what was
+-- what the client holds is still the file's, and the ranges to come are an end of those before
 pub record StaysOf (f : List ℕ) (old new : ClientState) : Type 0 where
   pub knows : Knows f new
   pub come : IsEndOf (to_come new f) (to_come old f)
@@ -51,12 +51,12 @@ pub record GoesOnKeeping (old new : ClientState) : Type 0 where
   pub file : (f : List ℕ) → Knows f old → StaysOf f old new
   pub agrees : (book : Book) → ClientAgrees old book → ClientAgrees new book
 
--- the range comes first of some
+-- the range is the first in the list
 abbrev pub ComesFirst : Extent → List Extent → Type 0
 ComesFirst r rs = slice_get rs 0 ≡ Some r
 
--- The range that the client needs next, of whatever file it knows, isn't all there: this is missing of it, and of those that it
--- needs later at most so many blocks behind it.
+-- The range that the client needs next, of whatever file it knows, isn't all there. The span is its first run of missing blocks, and at
+-- most `ahead` blocks after it, of ranges that are needed later.
 pub record Lacks (c : ClientState) (v : Revision) (ahead : ℕ) (span : Span) : Type 0 where
   pub range : Extent
   pub next : (f : List ℕ) → Knows f c → ComesFirst range (to_come c f)
@@ -64,24 +64,24 @@ pub record Lacks (c : ClientState) (v : Revision) (ahead : ℕ) (span : Span) : 
   pub room : HasRoom (blocks_of c) v.complete range ahead span missing
   pub needed : (f : List ℕ) → Knows f c → AreTouched (to_come c f) span
 
--- What a client that looks so many blocks ahead asks for: without a revision the first 65,536 bytes, with one what is missing of
--- the range that is needed next, and of later ones behind it.
+-- What a client asks for that looks `ahead` blocks ahead. Without a revision that is the first 65,536 bytes. With one it is what
+-- `Lacks` says of the next range and of later ones.
 abbrev pub AsksFor : ClientState → Option Revision → ℕ → Span → Type 0
 AsksFor c None ahead span = span ≡ first_span
 AsksFor c (Some v) ahead span = Lacks c v ahead span
 
--- what it misses, none where nothing is to do
+-- the span that the client lacks; there is none if there is nothing to do
 abbrev pub Misses : ClientState → Option Span → Type 0
 Misses c None = IsIdle c
 Misses c (Some span) = AsksFor c (revision_of c) (ahead_of c) span
 
--- it has gone on as far as the blocks reach
+-- the client has gone on as far as its blocks reach
 abbrev pub Rests : ClientState → Type 0
 Rests c = (o : Option Span) × Misses c o
 
--- ---- how it asks
+-- ---- the options of requests
 
--- It asks like this from here on; all else stays, and what it asked for is still what it lacks.
+-- From now on the client's requests have these options. All else stays, and what it asked for is still what it lacks.
 pub record AsksLike (how : RequestOptions) (old new : ClientState) : Type 0 where
   pub seen : new ≡ record old { how = how }
   pub knows : (f : List ℕ) → Knows f old → Knows f new
@@ -93,11 +93,11 @@ pub record AsksLike (how : RequestOptions) (old new : ClientState) : Type 0 wher
 abbrev pub KeepsOpen : ClientState → ClientState → Type 0
 KeepsOpen old new = AsksLike (record (how_of old) { closes = false }) old new
 
--- Its requests and checks have this line, too, after those before.
+-- This field line is added to its requests and checks, after those that were added before.
 abbrev pub AddsField : FieldLine → ClientState → ClientState → Type 0
 AddsField l old new = AsksLike (record (how_of old) { fields = fields_of old ++ l ∷ [] }) old new
 
--- It looks so many blocks ahead.
+-- It looks `blocks` blocks ahead.
 abbrev pub LooksAhead : ℕ → ClientState → ClientState → Type 0
 LooksAhead blocks old new = AsksLike (record (how_of old) { ahead = blocks }) old new
 
@@ -109,7 +109,7 @@ pub record RequestsKeeping (old : ClientState) (request : Option (List ℕ)) (ne
   pub goes : GoesOnKeeping old new
   pub asks : IfSome (asked_of new) (AsksFor new (revision_of new) (ahead_of new))
 
--- Memory was wanting for a query that has no report: nothing is asked then.
+-- Memory ran out for a query that has no report: then nothing is asked for.
 pub record StopsAsking (old new : ClientState) : Type 0 where
   pub busy : IsIdle old → ⊥
   pub goes : GoesOnKeeping old new
@@ -121,14 +121,14 @@ pub record StopsAsking (old new : ClientState) : Type 0 where
 
 pub record DeliversKeeping (old : ClientState) (text : List ℕ) (what : Delivered) (new : ClientState) : Type 0 where
   pub seen : Delivers old text what new
-  -- after an answer that isn't ignored it has gone on: its report stands, or something is missing
+  -- after an answer that isn't ignored the client has gone on: it has its report, or lacks something
   pub rests : IsIgnored what ⊎ Rests new
   pub file : (f : List ℕ) → revision_of new ≡ revision_of old → IfOk seen.reading (λ p. IsPieceOf f p.first p.body)
       → Knows f old → StaysOf f old new
   pub agrees : (book : Book) → HasDistinctTags book → ClientAgrees old book → IsReadAs (IsPieceOfBook (name_of old) book) text → ClientAgrees new book
 
--- After want of memory, which no answer meets that is ignored, the revision and what is asked for are those that the answer
--- leaves, some of its blocks are stored, and what was known of the same file is known.
+-- Memory ran out, as it never does for an answer that is ignored. The revision and the asked span are those that the answer leaves.
+-- Some of its blocks are stored, and what was known of the same file is still known.
 pub record StopsDelivery (old : ClientState) (text : List ℕ) (new : ClientState) : Type 0 where
   pub same : SameClient old new
   pub reading : Result SeenPiece Why
@@ -145,7 +145,7 @@ pub record StopsDelivery (old : ClientState) (text : List ℕ) (new : ClientStat
 
 -- ---- report
 
--- The report that stands is of the revision that is read, and true for each book that the client agrees with.
+-- The report, if there is one, is of the revision that is read. It is true for each book that the client agrees with.
 pub record Stands (c : ClientState) (report : Option Report) : Type 0 where
   pub standing : report ≡ report_of c
   pub read : IsSome report → IsSome (revision_of c)

@@ -1,4 +1,4 @@
--- The bytes of the file that a client has.
+-- Which bytes of the file a client has.
 use Rattle.std.specs.Prelude.{ℕ, ◌+◌, Bool, false, ◌&&◌, ◌==◌, nat_le}
 use Rattle.std.specs.Option.{option_map_or}
 use Rattle.extents.specs.Block.{first_block, blocks}
@@ -7,7 +7,7 @@ use Rattle.range_cache.specs.Numbers.{missing}
 use Rattle.cog_client.specs.Case.{Revision}
 use Rattle.cog_client.specs.Client.{ClientState, blocks_of, revision_of}
 
--- The len bytes from first on lie in the file that is read, and no block that they touch is missing.
+-- The `len` bytes from `first` on lie within the file that is read, and no block that they touch is missing.
 unfoldable pub has_bytes : ClientState → ℕ → ℕ → Bool
 has_bytes c first len = option_map_or
     (λ (v : Revision). nat_le (first + len) v.complete && missing (numbers (blocks_of c).entries) (first_block first) (blocks first len) == 0)

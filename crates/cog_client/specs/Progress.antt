@@ -1,4 +1,4 @@
--- How much of a file a client still has to get for its query, counted in blocks, and what its calls make of that.
+-- How many blocks of a file a client still lacks for its query, and how its calls change that.
 use Rattle.std.specs.Prelude.{◌≡◌, ◌⊎◌, ℕ, zero, suc, ◌+◌, ◌-◌, ◌*◌, ◌<◌, ◌≤◌, true, false, min, not, if◌then◌else◌, List, [], ◌∷◌, length, take, sum_by, Option, Some, IfSome, IsSome, IsTrue, IsOkAnd, Result}
 use Rattle.std.specs.List.{filter, IsAmong}
 use Rattle.tiff_dir.specs.declared.query.Query.{Query}
@@ -28,28 +28,28 @@ use Rattle.cog_client.specs.Keeps.{AsksFor, AsksLike, DeliversKeeping, GoesOnKee
 
 -- ---- counting
 
--- the blocks of those ranges that end in the file: of all that a query needs this is its cost
+-- the blocks of those ranges that end within the file; for all that a query needs this is its cost
 abbrev pub blocks_of_ranges : List ℕ → List Extent → ℕ
 blocks_of_ranges f rs = sum_by touched (filter (λ r. not (ends_past f r)) rs)
 
--- those of a range's blocks that aren't there, none where it ends after the file
+-- the blocks of a range that are missing: 0 if the range ends after the file
 abbrev pub missing_of_range : List ℕ → List ℕ → Extent → ℕ
 missing_of_range f there r = if ends_past f r then 0 else missing there (first_block r.first) (blocks r.first r.len)
 
--- of ranges in the order in which they are needed: what isn't there of the first one, and the later ones whole
+-- of ranges in the order in which they are needed: the missing blocks of the first one, and all blocks of the later ones
 abbrev pub left_of : List ℕ → List ℕ → List Extent → ℕ
 left_of f there [] = 0
 left_of f there (r ∷ rs) = missing_of_range f there r + blocks_of_ranges f rs
 
--- What is left for a client to get of a file.
+-- How many blocks are left for a client to get of a file.
 unfoldable pub left : List ℕ → ClientState → ℕ
 left f c = left_of f (numbers (blocks_of c).entries) (to_come c f)
 
--- A client that knows the file has at most the whole cost of its query left.
+-- A client that knows the file has at most the cost of its query left.
 abbrev pub CostIsMost : Type 0
 CostIsMost = (c : ClientState) (f : List ℕ) → Knows f c → IfSome (query_of c) (λ q. left f c ≤ cost f q)
 
--- So it is after an opening.
+-- This is so after an opening, too.
 abbrev pub OpeningLeavesCost : Type 0
 OpeningLeavesCost = (old new : ClientState) (q : Query) (f : List ℕ) → OpensKeeping q old new → Knows f old → left f new ≤ cost f q
 
@@ -57,31 +57,31 @@ OpeningLeavesCost = (old new : ClientState) (q : Query) (f : List ℕ) → Opens
 abbrev pub GoingOnLeavesNoMore : Type 0
 GoingOnLeavesNoMore = (old new : ClientState) (f : List ℕ) → GoesOnKeeping old new → Knows f old → left f new ≤ left f old
 
--- However it asks, as much is left.
+-- Whatever the options of requests, as much is left.
 abbrev pub AskingLeavesAsMuch : Type 0
 AskingLeavesAsMuch = (how : RequestOptions) (old new : ClientState) (f : List ℕ) → AsksLike how old new → left f new ≡ left f old
 
 -- ---- nothing left
 
--- The client has a revision, of which it knows this file, and a query.
+-- The client has a revision and a query, and all that it holds is of this file.
 pub record IsAtWork (f : List ℕ) (c : ClientState) : Type 0 where
   pub revision : IsSome (revision_of c)
   pub knows : Knows f c
   pub query : IsSome (query_of c)
 
--- After a request that leaves nothing the report stands.
+-- After a request that leaves nothing, the client has its report.
 abbrev pub RequestReports : Type 0
 RequestReports = (old new : ClientState) (request : Option (List ℕ)) (f : List ℕ) →
     RequestsKeeping old request new → IsAtWork f new → left f new ≡ 0 → IsSome (report_of new)
 
--- So it does after an answer that isn't ignored.
+-- After an answer that isn't ignored and leaves nothing, it has it, too.
 abbrev pub DeliveryReports : Type 0
 DeliveryReports = (old new : ClientState) (text : List ℕ) (what : Delivered) (f : List ℕ) →
     DeliversKeeping old text what new → (IsIgnored what → ⊥) → IsAtWork f new → left f new ≡ 0 → IsSome (report_of new)
 
--- ---- what is asked
+-- ---- what is asked for
 
--- The span is of whole blocks, each of which touches one range that the query needs of the file.
+-- The span has whole blocks, all of which touch one range that the query needs of the file.
 pub record IsOfNeeded (f : List ℕ) (q : Query) (s : Span) : Type 0 where
   pub range : Extent
   pub needed : IsAmong (needs f q) range
@@ -97,20 +97,20 @@ pub record IsOfNeeded (f : List ℕ) (q : Query) (s : Span) : Type 0 where
 abbrev pub IsGone : List ℕ → Span → Type 0
 IsGone there s = (k : ℕ) → s.first ≤ k * BLOCK_SIZE → k * BLOCK_SIZE ≤ s.last → has k there ≡ false
 
--- What a client with a revision asks for are blocks each of which touches a range that it needs, and none of them is there.
+-- A client with a revision asks for blocks each of which touches a range that its query needs. None of them is there.
 abbrev pub NeededAreAsked : Type 0
 NeededAreAsked = (c : ClientState) (v : Revision) (ahead : ℕ) (f : List ℕ) (s : Span) → revision_of c ≡ Some v → Knows f c →
     AsksFor c (Some v) ahead s → IfSome (query_of c) (λ q. AreTouched (needs f q) s) × IsGone (numbers (blocks_of c).entries) s
 
--- Where it looks no block ahead, they are of one range.
+-- If it looks no block ahead, they are of one range.
 abbrev pub OneRangeIsAsked : Type 0
 OneRangeIsAsked = (c : ClientState) (v : Revision) (f : List ℕ) (s : Span) → revision_of c ≡ Some v → Knows f c →
     AsksFor c (Some v) 0 s → IfSome (query_of c) (λ q. IsOfNeeded f q s)
 
--- ---- the answer to what is asked
+-- ---- the answer to what is asked for
 
--- The text is a server's whole answer to what the client asks for, and the server has p under the client's name. However far it
--- looked ahead when it asked, it may look otherwise now.
+-- The text is a server's whole answer to what the client asks for, and the server has `p` under the client's name. `ahead` is how far
+-- the client looked ahead when it asked, which may differ now.
 pub record IsOwnAnswer (c : ClientState) (p : Publication) (span : Span) (text : List ℕ) : Type 0 where
   pub catalogue : Catalogue
   pub lawful : IsCatalogue catalogue
@@ -123,18 +123,18 @@ pub record IsOwnAnswer (c : ClientState) (p : Publication) (span : Span) (text :
   pub answers : IsAnswer catalogue (request_with (closes c) (host_of c) (name_of c) (fields_of c) span.first span.last (tag_of c)) response
   pub shown : text ≡ text_of response
 
--- The piece is of p, and serves a request for these bytes under a known tag, or none. Where that is p's tag, or there is none, the piece has
--- all of them that the file has: as a part, with more beside it, or within the whole file, as where the server ignores Range (RFC 9110,
--- section 14.2). Where the tag is another one, it is read as the whole file (section 13.1.5), and any front of that is enough. A part with
--- less than was asked for, as HTTP lets a server give too (section 15.3.7), is none.
+-- The piece is of `p`, and answers a request for these bytes, made under the ETag `known` or none. If `known` is the ETag of `p`, or there
+-- is none, the piece has all of the bytes that the file has. It may be a part with more beside them, or the whole file, as of a server that
+-- ignores Range (RFC 9110, section 14.2). If `known` is another ETag, the piece is read as the whole file (section 13.1.5), and any front
+-- of it is enough. A part with less than was asked for doesn't count, though HTTP lets a server send one (section 15.3.7).
 pub record IsGiven (p : Publication) (s : Span) (known : Option (List ℕ)) (piece : SeenPiece) : Type 0 where
   pub of : IsPieceOf p piece
   pub begins : is_current known p.tag ≡ true → piece.first ≤ s.first
   pub ends : is_current known p.tag ≡ true → min (s.last + 1) (length p.file) ≤ piece.first + length piece.body
   pub all : is_current known p.tag ≡ false → IsTrue piece.whole
 
--- The text is read as that answer to what the client asks for, whichever server wrote it, and p has the client's name. However far the
--- client looked ahead when it asked, it may look otherwise now.
+-- The text is read as such an answer to what the client asks for, whichever server wrote it. `p` has the client's name. `ahead` is how far
+-- the client looked ahead when it asked, which may differ now.
 pub record IsServed (c : ClientState) (p : Publication) (span : Span) (text : List ℕ) : Type 0 where
   pub named : p.name ≡ name_of c
   pub asked : asked_of c ≡ Some span
@@ -142,7 +142,7 @@ pub record IsServed (c : ClientState) (p : Publication) (span : Span) (text : Li
   pub asks : AsksFor c (revision_of c) ahead span
   pub read : (r : Result SeenPiece Why) → ReadsAnswer text r → IsOkAnd r (IsGiven p span (tag_of c))
 
--- This server's own answers are so.
+-- This server's own answers are such answers.
 abbrev pub OwnAnswersAreServed : Type 0
 OwnAnswersAreServed = (c : ClientState) (p : Publication) (span : Span) (text : List ℕ) →
     IsOwnAnswer c p span text → (tag_of c ≡ Some p.tag → Knows p.file c) → IsServed c p span text
@@ -151,13 +151,13 @@ OwnAnswersAreServed = (c : ClientState) (p : Publication) (span : Span) (text : 
 abbrev pub answer_room : ℕ
 answer_room = HEAD_LIMIT + MAX_BLOCKS * BLOCK_SIZE
 
--- So is each front of one that has such room.
+-- So is each front of such an answer, if it is cut only after this many bytes.
 abbrev pub OwnFrontsAreServed : Type 0
 OwnFrontsAreServed = (c : ClientState) (p : Publication) (span : Span) (whole : List ℕ) (n : ℕ) →
     answer_room ≤ n → IsOwnAnswer c p span whole → (tag_of c ≡ Some p.tag → Knows p.file c) →
     IsServed c p span (take n whole)
 
--- The client has p's revision then, and where it had it before, less is left.
+-- The answer is not ignored, and the client has the revision of `p` then. If it had this revision before, less is left.
 pub record BringsOn (p : Publication) (old new : ClientState) (what : Delivered) : Type 0 where
   pub used : IsIgnored what → ⊥
   pub revision : revision_of new ≡ Some (record { tag = p.tag; complete = length p.file })
@@ -171,9 +171,10 @@ ServedBringOn = (old new : ClientState) (p : Publication) (span : Span) (text : 
 
 -- ---- whole answers, one after another
 
--- In what follows Answers says of a client, of a server's p, and of what was asked for, which texts answer it.
+-- In what follows `Answers` says which texts answer a client, for the server's `p` and the span that was asked for.
 
--- A client is told how to ask, asks, may be told then to look otherwise ahead, and takes such an answer to what it asks for.
+-- One exchange. The client gets options for its requests, and asks. Then it may get another number of blocks to look ahead. Last it takes
+-- an answer to what it asked for.
 pub record Exchanges (Answers : ClientState → Publication → Span → List ℕ → Type 0) (p : Publication) (old new : ClientState) : Type 0 where
   pub how : RequestOptions
   pub told : ClientState
@@ -190,13 +191,13 @@ pub record Exchanges (Answers : ClientState → Publication → Span → List �
   pub what : Delivered
   pub delivers : DeliversKeeping waiting text what new
 
--- so many of them, one after another
+-- `n` exchanges, one after another
 abbrev pub AreExchanges : (ClientState → Publication → Span → List ℕ → Type 0) → Publication → ℕ → ClientState → ClientState → Type 0
 AreExchanges Answers p zero old new = new ≡ old
 AreExchanges Answers p (suc n) old new = (mid : ClientState) × Exchanges Answers p old mid × AreExchanges Answers p n mid new
 
--- After an opening no more such answers are taken than the query costs of p's file, and one more; with as many the report stands,
--- however far the client looks ahead at each of them.
+-- After an opening there are at most cost + 1 such exchanges, where the cost is that of the query for the file of `p`. After cost + 1 the
+-- client has its report. How far it looks ahead at each of them doesn't matter.
 abbrev pub AnswersReport : (ClientState → Publication → Span → List ℕ → Type 0) → Type 0
 AnswersReport Answers = (book : Book) (p : Publication) (q : Query) (old opened new : ClientState) (n : ℕ) →
     HasDistinctTags book → In p book → ClientAgrees old book → OpensKeeping q old opened → AreExchanges Answers p n opened new →

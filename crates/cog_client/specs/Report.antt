@@ -27,7 +27,7 @@ said_of (outcomes.Info i) =
     Tells i.sides.items i.geo.minor (contents i.geo.keys.items) (items_in i.scale) (items_in i.tiepoints) (items_in i.transformation)
 said_of (outcomes.Fault fault) = Refuses fault
 
--- the query, the tag of the file, and what is said of it
+-- the query, the ETag of the file, and what is said of it
 pub record Told : Type 0 where
   pub query : Query
   pub tag : List ℕ
@@ -38,7 +38,7 @@ told r = record { query = r.query; tag = r.tag; said = said_of r.outcome }
 
 -- ---- when it is true
 
--- The report answers the query, and is true of one file that was published under the name: of the one whose tag it has.
+-- The report answers the query. It is true of one file that was published under the name: the one whose ETag the report has.
 pub record IsTrueReport (r : Report) (name : List ℕ) (query : Option Query) (book : Book) : Type 0 where
   pub asked : query ≡ Some r.query
   pub source : Publication
@@ -47,7 +47,7 @@ pub record IsTrueReport (r : Report) (name : List ℕ) (query : Option Query) (b
   pub of_tag : source.tag ≡ r.tag
   pub holds : IsTrueOf source.file r.query r.outcome
 
--- A report that tells the same as a true one is true.
+-- A report that says the same as a true one is true.
 abbrev pub TruthIsTold : Type 0
 TruthIsTold = (r s : Report) (name : List ℕ) (query : Option Query) (book : Book) →
     told r ≡ told s → IsTrueReport r name query book → IsTrueReport s name query book

@@ -9,7 +9,7 @@ use Rattle.cog_client.specs.Keeps.{AsksFor}
 use Rattle.cog_client.specs.Progress.{IsServed}
 use Rattle.cog_client.specs.Transport.{Coming}
 
--- The client of p's name asks for the span by this request, and where it has p's tag, what it holds is of p's file.
+-- The client has the name of `p`, and asks for the span by this request. If it has the ETag of `p`, what it holds is of the file of `p`.
 pub record AsksBy (p : Publication) (c : ClientState) (span : Span) (request : List ℕ) : Type 0 where
   pub named : p.name ≡ name_of c
   pub asked : asked_of c ≡ Some span
@@ -18,7 +18,7 @@ pub record AsksBy (p : Publication) (c : ClientState) (span : Span) (request : L
   pub text : Some request ≡ request_for c (Some span)
   pub knows : tag_of c ≡ Some p.tag → Knows p.file c
 
--- Whatever text comes of a client's request is read as an answer of p that has all that is asked for, or the whole file.
+-- Each text that comes of a client's request is read as an answer of `p`. It has all that is asked for, or it is the whole file.
 abbrev pub Serves : Coming → Publication → Type 0
 Serves answers p = (c : ClientState) (span : Span) (request text : List ℕ) →
     AsksBy p c span request → answers request (Some text) → IsServed c p span text

@@ -1,4 +1,4 @@
--- The steps of a client inside its calls.
+-- The steps within a client's calls.
 use Rattle.std.specs.Prelude.{◌≡◌, ℕ, List, length, Option, Some, None, IfSome, IsSome, IsSomeAnd}
 use Rattle.tiff_dir.specs.declared.query.Query.{Query}
 use Rattle.extents.specs.declared.span.Span.{Span}
@@ -16,11 +16,11 @@ use Rattle.cog_reader.specs.Going.{AreSame}
 use Rattle.cog_client.specs.Calls.{SameClient, unless_reported}
 use Rattle.cog_client.specs.Keeps.{Rests, StaysOf}
 
--- the report is the reader's answer to the query, under the tag of what is read
+-- the report is the reader's answer to the query, with the ETag of the revision that is read
 abbrev pub IsReportBy : Query → RevisionReader → Report → Type 0
 IsReportBy q s r = (q ≡ r.query) × (r.tag ≡ s.tag) × (reader.outcome_of s.reader ≡ Some r.outcome)
 
--- The reader's answer becomes the report, where there is one; else the reader is as it was.
+-- If the reader has an answer, it becomes the report. If not, the reader stays as it was.
 pub record Concludes (query : Query) (old : RevisionReader) (r : Option Report) (new : RevisionReader) : Type 0 where
   pub tag : new.tag ≡ old.tag
   pub complete : new.complete ≡ old.complete
@@ -36,7 +36,7 @@ pub record Concludes (query : Query) (old : RevisionReader) (r : Option Report) 
       → IfSome r (λ r. IsSomeAnd (reader.query_of old.reader) (λ q. IsTrueOf f q r.outcome))
   pub agrees : (f : List ℕ) → reader.ReaderAgrees old.reader f → reader.ReaderAgrees new.reader f
 
--- A revision is read that nothing is known of but tag and length.
+-- A revision is read from now on, of which only ETag and length are known.
 pub record Adopts (v : Revision) (asked : Option Span) (old new : ClientState) : Type 0 where
   pub same : SameClient old new
   pub asks : asked_of new ≡ asked
@@ -45,7 +45,7 @@ pub record Adopts (v : Revision) (asked : Option Span) (old new : ClientState) :
   pub report : report_of new ≡ None
   pub knows : (f : List ℕ) → length f ≡ v.complete → Knows f new
 
--- The first k of the blocks that a piece brings of what is asked for are stored.
+-- Of the blocks that a piece brings of the asked span, the first `k` are stored.
 pub record Stores (p : SeenPiece) (span : Span) (k : ℕ) (old new : ClientState) : Type 0 where
   pub same : SameClient old new
   pub asked : asked_of new ≡ asked_of old
@@ -54,7 +54,7 @@ pub record Stores (p : SeenPiece) (span : Span) (k : ℕ) (old new : ClientState
   pub blocks : blocks_of new ≡ stored_front k p span (blocks_of old)
   pub file : (f : List ℕ) → p.complete ≡ length f → IsPieceOf f p.first p.body → Knows f old → StaysOf f old new
 
--- A piece of the revision that is read is stored, so many blocks of it, and the client goes on.
+-- Of a piece of the revision that is read, `count` blocks are stored, and the client goes on.
 pub record AcceptsPiece (p : SeenPiece) (old new : ClientState) (count : ℕ) : Type 0 where
   pub same : SameClient old new
   pub asked : asked_of new ≡ unless_reported (report_of new) (asked_of old)
@@ -65,7 +65,7 @@ pub record AcceptsPiece (p : SeenPiece) (old new : ClientState) (count : ℕ) : 
   pub rests : Rests new
   pub file : (f : List ℕ) → p.complete ≡ length f → IsPieceOf f p.first p.body → Knows f old → StaysOf f old new
 
--- The same until memory was wanting: a beginning of the blocks is stored.
+-- The same until memory ran out: only the first of the blocks are stored.
 pub record StopsStoring (p : SeenPiece) (old new : ClientState) : Type 0 where
   pub same : SameClient old new
   pub asked : asked_of new ≡ asked_of old

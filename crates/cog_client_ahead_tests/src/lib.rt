@@ -1,4 +1,4 @@
-//! Tests of `cog_client`: requests that look ahead, and those that are told early.
+//! Tests of `cog_client`: requests that look ahead, and early requests.
 #![tactic(auto)]
 
 #[cfg(test)]

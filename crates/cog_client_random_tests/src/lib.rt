@@ -1,4 +1,4 @@
-//! Tests of `cog_client` at random: answers that are cut, lost, repeated, late or changed, and reports beside the plain program.
+//! Tests of `cog_client` at random. Answers are cut, lost, repeated, late or changed. Reports are compared with the plain program.
 #![tactic(auto)]
 
 #[cfg(test)]

@@ -1,4 +1,4 @@
-//! Answers as texts: heads that are written out, and bytes of a file behind them.
+//! Answers as texts: heads that are written out, and bytes of a file after them.
 use cog_client::{ClientError, Memory};
 use std::alloc::{AllocError, Global};
 use tiff_dir::Span;
@@ -6,9 +6,9 @@ use tiff_dir::Span;
 /// Why a step can't be done.
 #[derive(Clone, Copy, Debug)]
 pub enum NotDone {
-    /// The client found no memory.
+    /// The client ran out of memory.
     Memory,
-    /// There is no memory for what the client is given, or compared with.
+    /// There is no memory for what the client is given, or is compared with.
     NoRoom,
     /// No client is made.
     NoClient,
@@ -50,7 +50,7 @@ pub struct Publication<'a> {
 }
 
 impl<'a> Publication<'a> {
-    /// A file under a tag, and another under the next one.
+    /// Makes two publications: a file under a tag, and another one under the next tag.
     pub fn in_turn(
         tag: &'a str,
         file: &'a [u8],
@@ -67,14 +67,14 @@ impl<'a> Publication<'a> {
     }
 }
 
-/// A text and what follows it.
+/// Returns a text and the bytes that follow it.
 fn joined(alloc: Global, head: &str, body: &[u8]) -> Result<Vec<u8>, AllocError> {
     let mut text = Vec::from_slice(alloc, head.as_bytes())?;
     text.extend_from_slice(body)?;
     Ok(text)
 }
 
-/// The head of the answer 206 that has `len` bytes from `first` on, of a file of `complete` bytes.
+/// Returns the head of an answer of status 206 that has `len` bytes from `first` on, of a file of `complete` bytes.
 fn head_of_part(
     alloc: Global,
     tag: &str,
@@ -88,7 +88,7 @@ fn head_of_part(
     )
 }
 
-/// The answer 206 that has these bytes from a first position on, of a file of so many bytes.
+/// Returns an answer of status 206 that has the bytes `body` from position `first` on, of a file of `complete` bytes.
 fn part_of(
     alloc: Global,
     tag: &str,
@@ -102,7 +102,7 @@ fn part_of(
     Ok(joined(alloc, head.as_str(), body)?)
 }
 
-/// The answer 200 that has these bytes.
+/// Returns an answer of status 200 that has the bytes `body`.
 fn whole_of(alloc: Global, tag: &str, body: &[u8]) -> Result<Vec<u8>, NotDone> {
     let len = body.len();
     let head = format!(in alloc;
@@ -113,35 +113,35 @@ fn whole_of(alloc: Global, tag: &str, body: &[u8]) -> Result<Vec<u8>, NotDone> {
 }
 
 impl Publication<'_> {
-    /// The bytes from a first position to a last one.
+    /// Returns the bytes from position `first` to position `last`.
     fn bytes(&self, first: usize, last: usize) -> Result<&[u8], NotDone> {
         let end = last.checked_add(1).ok_or(NotDone::NoSuchPart)?;
         self.file.get(first..end).ok_or(NotDone::NoSuchPart)
     }
 
-    /// The answer 206 that has the bytes from a first position to a last one.
+    /// Returns the answer of status 206 that has the bytes from position `first` to position `last`.
     pub fn part(&self, alloc: Global, first: usize, last: usize) -> Result<Vec<u8>, NotDone> {
         let body = self.bytes(first, last)?;
         part_of(alloc, self.tag, first, body, self.file.len())
     }
 
-    /// The answer 206 to a request for a span, as far as the file goes.
+    /// Returns the answer of status 206 to a request for a span, as far as the file goes.
     pub fn asked(&self, alloc: Global, span: Span) -> Result<Vec<u8>, NotDone> {
         let end = self.file.len().checked_sub(1).ok_or(NotDone::NoSuchPart)?;
         self.part(alloc, span.first as usize, end.min(span.last as usize))
     }
 
-    /// The answer 200.
+    /// Returns the answer of status 200.
     pub fn whole(&self, alloc: Global) -> Result<Vec<u8>, NotDone> {
         whole_of(alloc, self.tag, self.file)
     }
 }
 
-/// The answer that a name isn't published.
+/// The answer for a name that isn't published.
 pub const NOT_FOUND: &[u8] =
     b"HTTP/1.1 404 Not Found\r\nContent-Length: 0\r\nConnection: close\r\n\r\n";
 
-/// The publication of a number.
+/// Returns publication number `which`.
 pub fn published<'a>(files: &[Publication<'a>], which: usize) -> Result<Publication<'a>, NotDone> {
     files.get(which).copied().ok_or(NotDone::NoSuchPart)
 }
@@ -149,35 +149,35 @@ pub fn published<'a>(files: &[Publication<'a>], which: usize) -> Result<Publicat
 /// An answer. Publications are named by their numbers.
 #[derive(Clone, Copy, Debug)]
 pub enum Answer<'a> {
-    /// The bytes of a publication from a first position to a last one.
+    /// The bytes of a publication, from the first position to the last one.
     Part(usize, usize, usize),
     /// All bytes of a publication.
     Whole(usize),
-    /// A part of which so many bytes at its end are lost.
+    /// A part, and how many bytes at its end are lost.
     CutPart(usize, usize, usize, usize),
-    /// A whole file of which so many bytes at its end are lost.
+    /// A whole file, and how many bytes at its end are lost.
     CutWhole(usize, usize),
-    /// A part, and behind it the publication's next bytes up to a position, which aren't announced.
+    /// A part, and after it the next bytes of the publication up to a position. These aren't announced.
     LongPart(usize, usize, usize, usize),
-    /// A part that is told as one of a file of so many bytes.
+    /// A part, and the length of the file that its head names.
     PartOf(usize, usize, usize, usize),
-    /// A publication without so many bytes at its end, told as a whole file.
+    /// A publication without some bytes at its end, which is announced as a whole file. The second number counts them.
     ShortWhole(usize, usize),
-    /// Bytes under a tag, from a first position on, of a file of so many bytes.
+    /// A tag, the position of the first byte, the bytes, and the length of the file.
     Bytes(&'a str, usize, &'a [u8], usize),
-    /// A whole file under a tag.
+    /// A tag, and a whole file.
     WholeOf(&'a str, &'a [u8]),
     Text(&'a [u8]),
 }
 
-/// A text without so many bytes at its end.
+/// Returns a text without its last `lost` bytes.
 fn cut(mut text: Vec<u8>, lost: usize) -> Result<Vec<u8>, NotDone> {
     let len = text.len().checked_sub(lost).ok_or(NotDone::NoSuchPart)?;
     text.truncate(len);
     Ok(text)
 }
 
-/// A part, and behind it the publication's next bytes up to a position.
+/// Returns a part, and after it the next bytes of the publication up to position `end`.
 fn long_part(
     alloc: Global,
     publication: Publication<'_>,
@@ -191,7 +191,7 @@ fn long_part(
     Ok(text)
 }
 
-/// A part that is told as one of a file of so many bytes.
+/// Returns a part whose head names a file of `complete` bytes.
 fn told_part(
     alloc: Global,
     publication: Publication<'_>,
@@ -202,7 +202,7 @@ fn told_part(
     part_of(alloc, publication.tag, first, body, complete)
 }
 
-/// A publication without so many bytes at its end, told as a whole file.
+/// Returns a publication without its last `less` bytes, announced as a whole file.
 fn short_whole(
     alloc: Global,
     publication: Publication<'_>,
@@ -218,7 +218,7 @@ fn short_whole(
 }
 
 impl Answer<'_> {
-    /// The bytes of the answer.
+    /// Returns the bytes of the answer.
     pub fn text(&self, alloc: Global, files: &[Publication<'_>]) -> Result<Vec<u8>, NotDone> {
         match *self {
             Answer::Part(which, first, last) => published(files, which)?.part(alloc, first, last),

@@ -4,7 +4,7 @@ use fixtures_support::{
 };
 use std::alloc::{AllocError, Global};
 
-/// The file f5 in another revision, 7 bytes longer: every byte of tile t is 255 - t.
+/// Returns the file f5 in another revision, 7 bytes longer. Each byte of tile t is 255 - t.
 fn other_f5(alloc: Global) -> Result<Vec<u8>, AllocError> {
     let mut file = f5(alloc)?;
     for byte in file.iter_mut().skip(16384) {
@@ -14,12 +14,12 @@ fn other_f5(alloc: Global) -> Result<Vec<u8>, AllocError> {
     Ok(file)
 }
 
-/// The file f5, and its other revision.
+/// Returns the file f5, and its other revision.
 pub fn revisions_of_f5(alloc: Global) -> Result<(Vec<u8>, Vec<u8>), AllocError> {
     Ok((f5(alloc)?, other_f5(alloc)?))
 }
 
-/// An entry of one value of two bytes.
+/// Makes a field with one value of two bytes.
 fn short(tag: u16, value: u16) -> Field {
     Field {
         tag,
@@ -27,7 +27,7 @@ fn short(tag: u16, value: u16) -> Field {
     }
 }
 
-/// An entry of so many values of four bytes, which begin at a place.
+/// Makes a field with `count` values of four bytes, which begin at `first`.
 fn longs(tag: u16, count: u32, first: u32) -> Field {
     Field {
         tag,
@@ -39,11 +39,11 @@ fn longs(tag: u16, count: u32, first: u32) -> Field {
     }
 }
 
-/// The bytes of a tile of 256 by 256 samples.
+/// The number of bytes of a tile of 256 by 256 samples.
 const TILE: u32 = 65536;
 
-/// The header, the directory and the two arrays of an image of so many by so many tiles, of which the first begins four bytes
-/// behind them, and each other 8 bytes behind the one before.
+/// Returns the header, the directory and the two arrays of an image of `tiles` by `tiles` tiles. The first tile begins four bytes after
+/// them, and each other one begins 8 bytes after the end of the one before.
 fn head_of_cog(alloc: Global, tiles: u16) -> Result<Vec<u8>, AllocError> {
     let side = tiles.saturating_mul(256);
     let count = u32::from(tiles).saturating_mul(u32::from(tiles));
@@ -73,8 +73,8 @@ fn head_of_cog(alloc: Global, tiles: u16) -> Result<Vec<u8>, AllocError> {
     Ok(out)
 }
 
-/// So many by so many plain tiles of 256 by 256 samples as GDAL's driver COG writes them: each between the four bytes of its
-/// length and its last four bytes once more. Every byte of tile t is t, or 255 - t.
+/// Returns an image of `tiles` by `tiles` plain tiles of 256 by 256 samples, as GDAL's driver COG writes them. Each tile stands between the
+/// four bytes of its length and a copy of its last four bytes. Each byte of tile t is t, or 255 - t.
 pub fn cog(alloc: Global, tiles: u16, is_other: bool) -> Result<Vec<u8>, AllocError> {
     let mut out = head_of_cog(alloc, tiles)?;
     let count = u32::from(tiles).saturating_mul(u32::from(tiles));

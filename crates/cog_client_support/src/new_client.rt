@@ -12,25 +12,25 @@ pub struct Revisions<'a> {
     pub files: [Fixture; 2],
 }
 
-/// The file f2 is published twice.
+/// The file f2, published twice.
 pub const F2_TWICE: Revisions<'static> = Revisions {
     tags: [OLD, NEW],
     files: [Fixture::F2, Fixture::F2],
 };
 
-/// The file f2 is replaced by f2b.
+/// The file f2, replaced by f2b.
 pub const F2_REPLACED: Revisions<'static> = Revisions {
     tags: [OLD, NEW],
     files: [Fixture::F2, Fixture::F2b],
 };
 
-/// The last part of f2, which lacks after its first four blocks.
+/// The last part of f2, which is missing after its first four blocks.
 pub const END: Positions = (65536, 67705);
 
-/// The window of f2's last tile is asked, and the first bytes of the file.
+/// The window of f2's last tile is asked, and then the first bytes of the file.
 pub const ASKS_FRONT: [Step<'static>; 2] = [Step::Opens(240, 240, 16, 16), Step::Asks(FIRST, None)];
 
-/// They came, and the last part is asked.
+/// The first bytes came, and the last part is asked.
 pub const ASKS_END: [Step<'static>; 4] = [
     Step::Opens(240, 240, 16, 16),
     Step::Asks(FIRST, None),
@@ -39,8 +39,8 @@ pub const ASKS_END: [Step<'static>; 4] = [
 ];
 
 impl Revisions<'_> {
-    /// Does these lists of steps, one after another, with new clients that have the least cache, and answers that come whole, and in
-    /// pieces of five sizes. The number of the first step that went otherwise than expected, counted from the first of all.
+    /// Does these lists of steps, one after another, with new clients that have the least cache. Answers come whole, and in pieces of five
+    /// sizes. Returns the number of the first step that didn't go as expected, counted from the first of all.
     pub fn otherwise(
         &self,
         alloc: Global,

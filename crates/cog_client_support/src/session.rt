@@ -1,16 +1,16 @@
-//! A client between steps.
+//! A client, and its steps.
 use crate::answers::{Answer, NotDone, Publication, published};
 use crate::steps::{Kind, Positions, Said, Step};
 use cog_client::{Client, ClientError, Delivered, Memory, Query, Report};
 use cog_reader_support::{Want, is_wanted, of_level};
 use std::alloc::{AllocError, Global};
 
-/// A client of `a` with so many blocks.
+/// Makes a client of `a` that keeps `blocks` blocks.
 pub fn client_of_a(alloc: Global, blocks: u32) -> Result<Client, ClientError> {
     Client::new(alloc, b"cog.test", b"a", blocks)
 }
 
-/// The text of a request.
+/// Returns the text of a request.
 fn request_text(
     alloc: Global,
     (first, last): Positions,
@@ -27,14 +27,14 @@ fn request_text(
     }
 }
 
-/// Whether this is asked, and this is the revision's tag.
+/// Returns whether `asked` is asked, and whether `tag` is the revision's tag.
 fn stands(client: &Client, asked: Option<Positions>, tag: Option<&str>) -> bool {
     let span = client.asked().map(|span| (span.first, span.last));
     let found = client.tag().map(|tag| tag.as_bytes());
     span == asked && found == tag.map(|tag| tag.as_bytes())
 }
 
-/// Whether the next request is for these positions, of the revision with this tag.
+/// Returns whether the next request is for these positions of the revision with this tag.
 fn asks(
     alloc: Global,
     client: &mut Client,
@@ -50,13 +50,13 @@ fn asks(
     }
 }
 
-/// Whether there is no request, and nothing is asked.
+/// Returns whether there is no request, and nothing is asked.
 fn asks_nothing(client: &mut Client) -> Result<bool, Memory> {
     let text = client.request()?;
     Ok(text.is_none() && client.asked().is_none())
 }
 
-/// Delivers an answer, whole or in pieces of so many bytes.
+/// Delivers an answer, whole or in pieces of `piece` bytes.
 pub fn hand(client: &mut Client, answer: &[u8], piece: Option<usize>) -> Result<Delivered, Memory> {
     let Some(size) = piece else {
         return client.deliver(answer);
@@ -68,8 +68,8 @@ pub fn hand(client: &mut Client, answer: &[u8], piece: Option<usize>) -> Result<
     client.end()
 }
 
-/// What an answer does that changes neither what is asked, nor the revision's tag, nor whether a report stands. None where it
-/// changes one of them.
+/// Delivers an answer, and returns what it does. Returns `None` where it changes what is asked, the revision's tag, or whether a report
+/// stands.
 fn does_quietly(
     client: &mut Client,
     answer: &[u8],
@@ -89,7 +89,7 @@ fn does_quietly(
     }
 }
 
-/// Whether an answer is ignored under this number, and nothing that callers see is changed by it.
+/// Returns whether an answer is ignored under the number `number`, and changes nothing that callers see.
 fn ignores(
     client: &mut Client,
     answer: &[u8],
@@ -102,7 +102,7 @@ fn ignores(
     }
 }
 
-/// Whether an answer is taken with so many blocks, and the client goes on asking for the same.
+/// Returns whether an answer is taken with `blocks` blocks, and the client still asks for the same.
 fn takes_more(
     client: &mut Client,
     answer: &[u8],
@@ -115,7 +115,7 @@ fn takes_more(
     }
 }
 
-/// Whether each of these answers is ignored under its number, and nothing that callers see is changed by it.
+/// Returns whether each of these answers is ignored under its number, and changes nothing that callers see.
 fn refuses(
     client: &mut Client,
     answers: &[(&str, u8)],
@@ -129,13 +129,13 @@ fn refuses(
     Ok(true)
 }
 
-/// Whether an answer isn't ignored.
+/// Returns whether an answer isn't ignored.
 fn uses(client: &mut Client, answer: &[u8], piece: Option<usize>) -> Result<bool, Memory> {
     let delivered = hand(client, answer, piece)?;
     Ok(!matches!(delivered, Delivered::Ignored(_)))
 }
 
-/// Answers the client's requests with parts of one publication, and says how many there were until there was none.
+/// Answers the client's requests with parts of one publication until there is none. Returns how many there were.
 fn read(
     alloc: Global,
     client: &mut Client,
@@ -152,12 +152,12 @@ fn read(
     Ok(1000)
 }
 
-/// Whether two reports say the same.
+/// Returns whether two reports say the same.
 fn are_same(report: &Report, other: &Report) -> bool {
     report.query == other.query && report.tag == other.tag && report.outcome == other.outcome
 }
 
-/// Whether a copy of the report, and a copy of that, says the same.
+/// Returns whether a copy of the report, and a copy of that copy, say the same.
 fn copies(alloc: Global, client: &Client) -> Result<bool, Memory> {
     let Some(report) = client.report() else {
         return Ok(false);
@@ -167,27 +167,27 @@ fn copies(alloc: Global, client: &Client) -> Result<bool, Memory> {
     Ok(are_same(&copy, report) && are_same(&again, report))
 }
 
-/// Whether this is the check, or there is none.
+/// Returns whether `want` is the check, or there is none.
 fn checks(client: &Client, want: Option<&str>) -> Result<bool, Memory> {
     let text = client.check()?;
     let found = text.as_ref().map(|text| text.as_slice());
     Ok(found == want.map(|want| want.as_bytes()))
 }
 
-/// Whether each of these answers to a check says this.
+/// Returns whether each of these answers to a check says `said`.
 fn says(client: &Client, answers: &[&str], said: Said) -> bool {
     answers.iter().all(|answer| Said::from(client.current(answer.as_bytes())) == said)
 }
 
-/// Whether answers to a check say what is expected of their kind.
+/// Returns whether answers to a check say what is expected of their kind.
 fn hears(client: &Client, kinds: &[Kind<'_>]) -> bool {
     kinds
         .iter()
         .all(|(answers, said)| says(client, answers, *said))
 }
 
-/// A client, the publications that its answers are of, its query, and the size of the pieces in which answers come, none where they
-/// come whole.
+/// A client, the publications that its answers are of, and its query. Answers come in pieces of `piece` bytes, or whole where that is
+/// `None`.
 pub struct Session<'a> {
     pub client: Client,
     files: &'a [Publication<'a>],
@@ -195,7 +195,7 @@ pub struct Session<'a> {
     piece: Option<usize>,
 }
 
-// Written out, it is one call wherever a session is let go; derived, each such place would be proved field by field.
+// Written out, so that it is one call wherever a session is dropped. Derived, each such place would be proved field by field.
 impl<'a> Drop for Session<'a> {
     fn drop(self) {
         let Session {
@@ -208,7 +208,7 @@ impl<'a> Drop for Session<'a> {
 }
 
 impl<'a> Session<'a> {
-    /// A client that has been asked nothing yet, and gets answers whole, or in pieces of so many bytes.
+    /// Makes a session of a client that hasn't been asked anything yet. It gets answers whole, or in pieces of `piece` bytes.
     pub fn new(client: Client, files: &'a [Publication<'a>], piece: Option<usize>) -> Session<'a> {
         Session {
             client,
@@ -224,7 +224,7 @@ impl<'a> Session<'a> {
         self.client.open(query);
     }
 
-    /// Whether this is the report, under this tag, of the query that was opened last, and nothing is asked.
+    /// Returns whether `want` is the report, under the tag `tag`, of the query that was opened last, and nothing is asked.
     fn reports(&self, tag: &str, want: Want<'_>) -> bool {
         match self.client.report() {
             None => false,
@@ -237,7 +237,7 @@ impl<'a> Session<'a> {
         }
     }
 
-    /// Whether an answer does this.
+    /// Returns whether an answer does `want`.
     fn does(
         &mut self,
         alloc: Global,
@@ -248,7 +248,7 @@ impl<'a> Session<'a> {
         Ok(hand(&mut self.client, &text, self.piece)? == want)
     }
 
-    /// Does a step in which an answer is delivered, and says whether it went as expected.
+    /// Does a step in which an answer is delivered. Returns whether it went as expected.
     fn deliver(&mut self, alloc: Global, step: Step<'_>) -> Result<bool, NotDone> {
         match step {
             Step::Takes(answer, blocks) => self.does(alloc, answer, Delivered::Took(blocks)),
@@ -274,7 +274,7 @@ impl<'a> Session<'a> {
         }
     }
 
-    /// Does a step that changes nothing, and says whether it went as expected.
+    /// Does a step that changes nothing. Returns whether it went as expected.
     fn look(&self, alloc: Global, step: Step<'_>) -> Result<bool, NotDone> {
         match step {
             Step::Stands(asked, tag) => Ok(stands(&self.client, asked, tag)),
@@ -287,7 +287,7 @@ impl<'a> Session<'a> {
         }
     }
 
-    /// Does a step, and says whether it went as expected.
+    /// Does a step. Returns whether it went as expected.
     pub fn step(&mut self, alloc: Global, step: Step<'_>) -> Result<bool, NotDone> {
         match step {
             Step::Opens(x, y, w, h) => {
@@ -315,7 +315,7 @@ impl<'a> Session<'a> {
         }
     }
 
-    /// Does these steps. The number of the first that went otherwise than expected, none where all went well.
+    /// Does these steps. Returns the number of the first that didn't go as expected, or `None` where all went well.
     pub fn go(&mut self, alloc: Global, steps: &[Step<'_>]) -> Result<Option<usize>, NotDone> {
         for (i, step) in steps.iter().enumerate() {
             if !self.step(alloc, *step)? {
@@ -325,8 +325,8 @@ impl<'a> Session<'a> {
         Ok(None)
     }
 
-    /// Does these lists of steps, one after another. The number of the first step that went otherwise than expected, counted
-    /// from the first of all.
+    /// Does these lists of steps, one after another. Returns the number of the first step that didn't go as expected, counted from the
+    /// first of all.
     pub fn go_through(
         &mut self,
         alloc: Global,
@@ -343,8 +343,8 @@ impl<'a> Session<'a> {
     }
 }
 
-/// Does these lists of steps, one after another, with a new client that has the least cache, and answers that come whole, or in
-/// pieces of so many bytes. The number of the first step that went otherwise than expected, counted from the first of all.
+/// Does these lists of steps, one after another, with a new client that has the least cache. Answers come whole, or in pieces of `piece`
+/// bytes. Returns the number of the first step that didn't go as expected, counted from the first of all.
 pub fn otherwise_by(
     alloc: Global,
     files: &[Publication<'_>],
@@ -358,7 +358,7 @@ pub fn otherwise_by(
 /// How many blocks clients look ahead.
 pub const AHEAD: [u32; 4] = [0, 1, 8, 64];
 
-/// How answers come: whole, and in pieces of so many bytes. The head of an answer has about 171, a block 16,384.
+/// How answers come: whole, or in pieces of this many bytes. The head of an answer has about 171 bytes, and a block has 16,384.
 pub const WAYS: [Option<usize>; 6] = [
     None,
     Some(1),
@@ -368,7 +368,7 @@ pub const WAYS: [Option<usize>; 6] = [
     Some(100_000),
 ];
 
-/// The same with answers that come in each of these ways, each time with another client.
+/// Does the same with answers that come in each of these ways, each time with another client.
 pub fn otherwise(
     alloc: Global,
     files: &[Publication<'_>],

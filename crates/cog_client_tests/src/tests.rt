@@ -22,7 +22,7 @@ fn expect(
     Ok(())
 }
 
-/// One publication, twice.
+/// Returns one publication, twice.
 fn only(file: &[u8]) -> [Publication<'_>; 2] {
     [Publication { tag: OLD, file }; 2]
 }

@@ -1,4 +1,4 @@
--- The geo fields of a file, read one after another.
+-- The geo fields of a file, which are read one after another.
 use Rattle.std.specs.Prelude.{◌≡◌, ℕ, ◌≤◌, ◌++◌, false, List, [], ◌∷◌, length, take, Option}
 use Rattle.std.specs.Option.{option_map_or}
 use Rattle.std.specs.List.{filter_map, flat_map, list_any, sum_by}
@@ -14,31 +14,31 @@ use Rattle.tiff_dir.specs.Walk.{AreGeoPlaces, AreTyped}
 abbrev pub six : GeoPlaces → List (Option Place)
 six p = p.directory ∷ p.doubles ∷ p.ascii ∷ p.scale ∷ p.tiepoints ∷ p.transformation ∷ []
 
--- those that are there
+-- the places of the fields that are there
 abbrev pub present_in : GeoPlaces → List Place
 present_in p = filter_map (λ o. o) (six p)
 
--- how many bytes stand at these places together
+-- how many bytes these places have together
 abbrev pub total : List Place → ℕ
 total ps = sum_by (λ (p : Place). p.len) ps
 
--- where the geo fields stand, how many of them were read, and the bytes of those, one after the other
+-- the places of the geo fields, how many fields were read, and the bytes of these, one after the other
 pub record FieldsState : Type 0 where
   pub places : GeoPlaces
   pub given : ℕ
   pub bytes : List ℕ
 
--- the bounds that it keeps: all bytes of the fields that were read are there
+-- the bounds of such a state: all bytes of the fields that were read are there
 pub record AreFields (places : GeoPlaces) (given : ℕ) (bytes : List ℕ) : Type 0 where
   pub typed : AreTyped places
   pub within : given ≤ length (present_in places)
   pub whole : length bytes ≡ total (take given (present_in places))
 
--- how many bytes a field has: none where it is absent
+-- how many bytes a field has: 0 if it is absent
 abbrev pub len_of_field : Option Place → ℕ
 len_of_field o = option_map_or (λ (p : Place). p.len) o 0
 
--- the bytes of a geo field of the file (OGC 19-008, sections 7.1 and 8), none where it is absent
+-- the bytes of a geo field of the file (OGC 19-008, sections 7.1 and 8); there are none if it is absent
 abbrev pub geo_bytes : List ℕ → ℕ → List ℕ
 geo_bytes f tag = option_map_or (λ p. bytes_in f (extent_of_place p)) (geo_place f tag) []
 
@@ -52,7 +52,7 @@ pub record AreFieldParts (p : GeoPlaces) (bytes directory doubles ascii scale ti
   pub tiepoints_len : length tiepoints ≡ len_of_field p.tiepoints
   pub transformation_len : length transformation ≡ len_of_field p.transformation
 
--- The places are the file's, and the bytes are those of the first ranges, which end in the file.
+-- The places are the file's. The bytes are those of the first `given` ranges, which end within the file.
 pub record IsReadOf (f : List ℕ) (r : FieldsState) : Type 0 where
   pub places : AreGeoPlaces f r.places
   pub bytes_are : r.bytes ≡ flat_map (bytes_in f) (take r.given (geo_ranges f))

@@ -1,4 +1,4 @@
--- Going on: the reader is given what the cache has, and what is missing then.
+-- How a reader goes on: it is given what the cache has, and then something is missing, or nothing.
 use Rattle.cog_reader.specs.declared.ahead.TheConstants.{MAX_BLOCKS}
 use Rattle.std.specs.Prelude.{◌≡◌, ℕ, zero, suc, ◌+◌, ◌-◌, ◌*◌, ◌<◌, ◌≤◌, false, List, Option, Some, None, IsSome, IsSomeAnd, ◌⊎◌, slice_get}
 use Rattle.tiff_dir.specs.declared.query.Query.{Query}
@@ -21,23 +21,23 @@ pub record CachedReader : Type 0 where
 abbrev pub work : ReaderState → Blocks → CachedReader
 work r b = record { reader = r; cache = b }
 
--- the same blocks, in whatever order
+-- the same blocks, in any order
 pub record AreSame (old new : Blocks) : Type 0 where
   pub capacity : new.capacity ≡ old.capacity
   pub blocks : (k : ℕ) → block_at k new.entries ≡ block_at k old.entries
 
--- No query of the level that is asked of needs more of the file than before.
+-- No query of the level of the reader's query needs more of the file than before.
 abbrev pub KeepsRead : List ℕ → ReaderState → ReaderState → Type 0
 KeepsRead f old new = (asked q : Query) → query_of old ≡ Some asked → AreOfOneLevel f asked q → IsEndOf (unread new f q) (unread old f q)
 
--- what it holds is still the file's, and what is to come is an end of what was
+-- what is held is still the file's, and the ranges to come are an end of those before
 pub record ReaderStaysOf (f : List ℕ) (old new : CachedReader) : Type 0 where
   pub reader : ReaderAgrees new.reader f
   pub cache : Holds f new.cache
   pub come : IsEndOf (to_come new.reader f) (to_come old.reader f)
   pub held : KeepsRead f old.reader new.reader
 
--- What the reader is given changes no block, no length, no query, and not how many bytes of unpacked tiles it may keep.
+-- What the reader is given changes no block, no length and no query. It may keep as many bytes of unpacked tiles as before.
 pub record ReaderGoesOn (old new : CachedReader) : Type 0 where
   pub file_length : file_length_of new.reader ≡ file_length_of old.reader
   pub query : query_of new.reader ≡ query_of old.reader
@@ -45,11 +45,11 @@ pub record ReaderGoesOn (old new : CachedReader) : Type 0 where
   pub blocks : AreSame old.cache new.cache
   pub file : (f : List ℕ) → ReaderAgrees old.reader f → Holds f old.cache → ReaderStaysOf f old new
 
--- a range touches block k
+-- a range touches block `k`
 abbrev pub Touches : Extent → ℕ → Type 0
 Touches r k = (first_block r.first ≤ k) × (k < first_block r.first + blocks r.first r.len)
 
--- one of these ranges touches block k
+-- one of these ranges touches block `k`
 abbrev pub OneTouches : List Extent → ℕ → Type 0
 OneTouches rs k = (place : ℕ) × IsSomeAnd (slice_get rs place) (λ r. Touches r k)
 
@@ -62,16 +62,16 @@ abbrev pub known_at : ReaderState → ℕ → Option Extent
 known_at r zero = wanted r
 known_at r (suc index) = upcoming r index
 
--- a range that the reader wants from now on, as far as it knows it, touches block k
+-- a range that the reader wants from now on, as far as it knows it, touches block `k`
 abbrev pub IsWantedFromNow : ReaderState → ℕ → Type 0
 IsWantedFromNow r k = (index : ℕ) × IsSomeAnd (known_at r index) (λ x. Touches x k)
 
--- a range that the reader wants later, as far as it knows it, touches block k
+-- a range that the reader wants later, as far as it knows it, touches block `k`
 abbrev pub IsWantedLater : ReaderState → ℕ → Type 0
 IsWantedLater r k = (index : ℕ) × IsSomeAnd (upcoming r index) (λ x. Touches x k)
 
--- Of a range these are the bytes of the first run of missing blocks, and behind it of at most so many more, none of which is there:
--- 65 blocks at most in all.
+-- The span is the first run of missing blocks of a range, and at most `ahead` blocks after it. None of these blocks is there, and they
+-- are at most 65.
 pub record IsMissing (b : Blocks) (file_length : ℕ) (r : Extent) (ahead : ℕ) (span : Span) : Type 0 where
   pub some : 0 < r.len
   pub within : r.first + r.len ≤ file_length
@@ -87,7 +87,7 @@ pub record IsMissing (b : Blocks) (file_length : ℕ) (r : Extent) (ahead : ℕ)
   pub inside : to * BLOCK_SIZE < file_length + BLOCK_SIZE
   pub gone : (k : ℕ) → lacks.from ≤ k → k < to → has k (numbers b.entries) ≡ false
 
--- The blocks of the range that are there lead the others, and those that are missing have room beside them.
+-- The blocks of the range that are there lead the others, and the missing ones have room beside them.
 pub record HasRoom (b : Blocks) (file_length : ℕ) (r : Extent) (ahead : ℕ) (span : Span) (m : IsMissing b file_length r ahead span) : Type 0 where
   pub led : IsLed (numbers b.entries) (first_block r.first) (blocks r.first r.len)
   pub room : blocks r.first r.len - absent (numbers b.entries) (first_block r.first) (blocks r.first r.len) + (m.to - m.lacks.from) ≤ b.capacity
@@ -95,8 +95,8 @@ pub record HasRoom (b : Blocks) (file_length : ℕ) (r : Extent) (ahead : ℕ) (
 abbrev pub IsMissingWithRoom : Blocks → ℕ → Extent → ℕ → Span → Type 0
 IsMissingWithRoom b file_length r ahead span = (m : IsMissing b file_length r ahead span) × HasRoom b file_length r ahead span m
 
--- The range that the reader wants, which is still to come first of whatever file is read, isn't all there. The span is the first run
--- of missing blocks of it, and behind it blocks of ranges that the reader wants later, which are to come later.
+-- The range that the reader wants isn't all there. It is the first that is still to come, whatever file is read. The span is its first run
+-- of missing blocks. After them it has blocks of ranges that the reader wants later, and which are to come later.
 pub record IsStopped (w : CachedReader) (ahead : ℕ) (span : Span) : Type 0 where
   pub range : Extent
   pub wanted : wanted w.reader ≡ Some range
@@ -106,17 +106,17 @@ pub record IsStopped (w : CachedReader) (ahead : ℕ) (span : Span) : Type 0 whe
   pub later : (k : ℕ) → missing.lacks.to ≤ k → k < missing.to → IsWantedLater w.reader k
   pub needed : (f : List ℕ) → ReaderAgrees w.reader f → AreTouched (to_come w.reader f) span
 
--- The reader needs nothing more, or stopped where the cache lacks something.
+-- The reader needs nothing more, or it stopped where the cache lacks something.
 abbrev pub IsFilled : CachedReader → ℕ → Option Span → Type 0
 IsFilled w ahead None = (query_of w.reader ≡ None) ⊎ IsSome (outcome_of w.reader)
 IsFilled w ahead (Some span) = IsStopped w ahead span
 
--- Looking no block ahead is asking for what is missing of one range.
+-- If `ahead` is 0, the span is the first run of missing blocks of one range.
 abbrev pub LooksAtOneRange : Type 0
 LooksAtOneRange = (b : Blocks) (file_length : ℕ) (r : Extent) (span : Span) (m : IsMissing b file_length r 0 span) →
     (m.to ≡ m.lacks.to) × (span.last ≡ m.missing.last)
 
--- One range: it was given, and one step less is left; or it isn't all there, and the reader is as it was.
+-- One range. It was given, and fewer steps are left; or it isn't all there, and the reader is as it was.
 abbrev pub IsGiven : Extent → CachedReader → CachedReader → Option Span → Type 0
 IsGiven r old new None = steps_of new.reader < steps_of old.reader
 IsGiven r old new (Some span) = (new.reader ≡ old.reader) × IsMissingWithRoom new.cache (file_length_of new.reader) r 0 span

@@ -44,7 +44,7 @@ pub record IsWindowOf (f : List ℕ) (q : Query) (v : Window) : Type 0 where
 abbrev pub items_of : Order → List ℕ → ℕ → Option (List (List ℕ))
 items_of order f tag = option_map (λ p. doubles_in order (bytes_in f (extent_of_place p))) (geo_place f tag)
 
--- Nothing is wrong with the file for Info, and it says these sides, keys and items (OGC 19-008, sections 7 and 8).
+-- The file has no fault for Info, and it has these sides, keys and items (OGC 19-008, sections 7 and 8).
 pub record IsInfoOf (f : List ℕ) (i : Info) : Type 0 where
   pub sound : (fault : FileFault) → IsFaulty f query.Info fault → ⊥
   pub order : Order

@@ -19,14 +19,14 @@ use Rattle.cog_reader.specs.declared.state.ReaderStep.TheVariants.{Read, Answer}
 use Rattle.cog_reader.specs.KeptArrays.{KeptAgrees}
 use Rattle.cog_reader.specs.Reader.{come_by, outcome_in, steps_by, upcoming_by, wanted_by, IsState, StateAgrees}
 
--- the walk and the arrays that are kept are those of a file of so many bytes
+-- the walk and the arrays that are kept are those of a file of `file_length` bytes
 pub record IsBase (f : List ℕ) (file_length : ℕ) (w : WalkState) (k : KeptArrays) : Type 0 where
   pub size : length f ≡ file_length
   pub walked : walk.WalkAgrees w f
   pub kept : KeptAgrees f k
 
--- One state takes the place of another: what it holds is the file's, and it wants the same ranges, or none, being done. Where the other
--- was done, it is.
+-- One state becomes another. What it holds is the file's. It wants the same ranges, or it is done and wants none. If the old state was
+-- done, the new one is, too.
 pub record Becomes (file_length : ℕ) (w : WalkState) (k : KeptArrays) (q : Query) (old new : State) : Type 0 where
   pub sound : IsState file_length w k new
   pub same : (f : List ℕ) → IsBase f file_length w k → StateAgrees f q k old → StateAgrees f q k new
@@ -35,13 +35,13 @@ pub record Becomes (file_length : ℕ) (w : WalkState) (k : KeptArrays) (q : Que
   pub steps : steps_by w k new ≤ steps_by w k old
   pub done : IsSome (outcome_in old) → IsSome (outcome_in new)
 
--- the range isn't empty, ends in a file of so many bytes, and isn't too long
+-- the range isn't empty, ends within a file of `file_length` bytes, and isn't too long
 pub record IsFair (file_length : ℕ) (r : Extent) : Type 0 where
   pub some : 0 < r.len
   pub inside : r.first + r.len ≤ file_length
   pub few : r.len ≤ MAX_RANGE_BYTES
 
--- the state wants this range, which can be given, and which is the first of those that are still to come
+-- the state wants this range, which can be given, and which is the first of those still to come
 pub record IsWantedBy (file_length : ℕ) (w : WalkState) (k : KeptArrays) (state : State) (r : Extent) : Type 0 where
   pub is : wanted_by w k state ≡ Some r
   pub fair : IsFair file_length r
@@ -49,7 +49,7 @@ pub record IsWantedBy (file_length : ℕ) (w : WalkState) (k : KeptArrays) (stat
   pub first : (f : List ℕ) (q : Query) → IsBase f file_length w k → StateAgrees f q k state
       → slice_get (come_by f w k q state) 0 ≡ Some r
 
--- There is no such range that ends in the file, or it is this one, and stands at this place among those that are still to come.
+-- `None`: there is no range, or it ends after the file. `Some`: it is this span, which is in the file and at `place` among those to come.
 abbrev pub ComesAt : ℕ → WalkState → KeptArrays → State → ℕ → Option Extent → Option Span → Type 0
 ComesAt file_length w k state place range None = IfSome range (λ r. file_length < r.first + r.len)
 ComesAt file_length w k state place range (Some span) =
@@ -57,20 +57,20 @@ ComesAt file_length w k state place range (Some span) =
     × ((f : List ℕ) (q : Query) → IsBase f file_length w k → StateAgrees f q k state
     → slice_get (come_by f w k q state) place ≡ Some (extent_of_span span))
 
--- it is the range that the state wants next
+-- the same for the range that the state wants next
 abbrev pub ComesNext : ℕ → WalkState → KeptArrays → State → Option Span → Type 0
 ComesNext file_length w k state span = ComesAt file_length w k state 0 (wanted_by w k state) span
 
--- it is the range that the state wants after the next one and i more
+-- the same for the range that the state wants after the next one and `i` more
 abbrev pub ComesLater : ℕ → WalkState → KeptArrays → State → ℕ → Option Span → Type 0
 ComesLater file_length w k state i span = ComesAt file_length w k state (i + 1) (upcoming_by w k state i) span
 
--- the step leads from a state to a range that is wanted in a state, or to an outcome
+-- the step leads from a state to a state with a wanted range, or to an outcome
 abbrev pub IsStep : ℕ → WalkState → KeptArrays → Query → State → ReaderStep → Type 0
 IsStep file_length w k q old (Read new span) = Becomes file_length w k q old new × IsWantedBy file_length w k new (extent_of_span span)
 IsStep file_length w k q old (Answer o) = Becomes file_length w k q old (Answered o)
 
--- the fault stands in the file for Info
+-- the file has the fault for Info
 abbrev pub IsInfoError : List ℕ → WalkError → Type 0
 IsInfoError f (File fault) = IsFaulty f query.Info fault
 IsInfoError f Memory = ⊤

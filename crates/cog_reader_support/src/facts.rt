@@ -1,4 +1,4 @@
-//! What Info tells of a file, as a value of a constant.
+//! The contents of Info of a file, as a value of a constant.
 use cog_reader::Info;
 use geokeys::{Key, KeyValue};
 
@@ -6,12 +6,12 @@ use geokeys::{Key, KeyValue};
 #[derive(Clone, Copy)]
 pub enum Value<'a> {
     Short(u16),
-    /// Items of eight bytes, the most significant one first.
+    /// Items of eight bytes, with the most significant byte first.
     Doubles(&'a [[u8; 8]]),
     Ascii(&'a [u8]),
 }
 
-/// What Info tells of a file: the sides of its levels, its keys by their numbers, and the items of its model fields.
+/// The contents of Info of a file: the sides of its levels, its keys by their numbers, and the items of its model fields.
 #[derive(Clone, Copy)]
 pub struct Facts<'a> {
     pub sides: &'a [(u32, u32)],
@@ -22,7 +22,7 @@ pub struct Facts<'a> {
     pub transformation: Option<&'a [[u8; 8]]>,
 }
 
-/// What Info tells of a file without levels and geo fields.
+/// The contents of Info of a file without levels and geo fields.
 pub const NO_FACTS: Facts<'static> = Facts {
     sides: &[],
     minor: 0,
@@ -34,7 +34,7 @@ pub const NO_FACTS: Facts<'static> = Facts {
 
 const ONE: [u8; 8] = [0x3f, 0xf0, 0, 0, 0, 0, 0, 0];
 
-/// What Info tells of f3.
+/// The contents of Info of f3.
 pub const FACTS_OF_F3: Facts<'static> = Facts {
     sides: &[(32, 32), (16, 16)],
     minor: 0,
@@ -74,7 +74,7 @@ fn are_items(items: &Option<Vec<[u8; 8]>>, want: Option<&[[u8; 8]]>) -> bool {
     }
 }
 
-/// Whether Info tells this.
+/// Returns whether Info has these contents.
 pub fn is_told(info: &Info, facts: Facts<'_>) -> bool {
     info.sides.as_slice() == facts.sides
         && info.geo.minor == facts.minor

@@ -1,4 +1,4 @@
-//! The test files by their names.
+//! The test files, by their names.
 use fixtures_support::{f1, f1m, f2, f2b, f3, f4, f5, f6, f6m};
 use std::alloc::{AllocError, Global};
 
@@ -17,7 +17,7 @@ pub enum Fixture {
 }
 
 impl Fixture {
-    /// The bytes of the file.
+    /// Returns the bytes of the file.
     pub fn file(self, alloc: Global) -> Result<Vec<u8>, AllocError> {
         match self {
             Fixture::F1 => f1(alloc),
@@ -33,7 +33,7 @@ impl Fixture {
     }
 }
 
-/// Puts bytes in the place of those of a file.
+/// Replaces bytes of a file from `place` on.
 pub fn change(file: &mut [u8], place: usize, bytes: &[u8]) {
     if let Some(rest) = file.get_mut(place..) {
         for (here, byte) in rest.iter_mut().zip(bytes) {

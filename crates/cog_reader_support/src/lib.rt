@@ -1,5 +1,5 @@
-//! Support for tests of readers and clients: the test files by name, outcomes as values of constants, and the plain program beside
-//! the product.
+//! Support for tests of readers and clients: the test files by name, outcomes as values of constants, and the plain program beside the
+//! product.
 #![tactic(auto)]
 
 mod facts;

@@ -1,5 +1,4 @@
-//! The plain program beside the product: whether an outcome is what the plain program reads in the whole file. Tests stand on
-//! it; nothing else does.
+//! The plain program beside the product: whether an outcome is what the plain program reads in the whole file. Only tests stand on it.
 use cog_reader::{Info, Outcome, Window};
 use reference_support::{
     Rectangle, asked_rectangle, is_outside, is_too_large, level_of, level_samples, level_sides,
@@ -7,7 +6,7 @@ use reference_support::{
 use std::alloc::{AllocError, Global};
 use tiff_dir::{FileFault, Query};
 
-/// A level's samples by the plain program, row by row, each in as many bytes as it has, most significant first.
+/// A level's samples by the plain program, row by row. Each sample has as many bytes as in the file, with the most significant byte first.
 #[derive(Drop)]
 struct Rows {
     samples: u16,
@@ -23,7 +22,7 @@ pub struct Plain {
     levels: Vec<Rows>,
 }
 
-/// The last so many bytes of each number, most significant first.
+/// Returns the last `size` bytes of each number, with the most significant byte first.
 fn bytes_of(alloc: Global, numbers: &[u64], size: u16) -> Result<Vec<u8>, AllocError> {
     let mut bytes = Vec::new(alloc);
     let unused = 8usize.saturating_sub(usize::from(size));
@@ -34,7 +33,7 @@ fn bytes_of(alloc: Global, numbers: &[u64], size: u16) -> Result<Vec<u8>, AllocE
     Ok(bytes)
 }
 
-/// Level `n` of a file, if the plain program reads it.
+/// Returns level `n` of a file, if the plain program reads it.
 fn rows_of(alloc: Global, file: &[u8], n: u32) -> Result<Option<Rows>, AllocError> {
     let Some(level) = level_of(alloc, file, n as usize)? else {
         return Ok(None);
@@ -71,8 +70,8 @@ impl Plain {
         })
     }
 
-    /// Whether an outcome answers a query of the file: a window has the samples of its rectangle, Info the sides of the
-    /// levels, and of faults only that one stands that the query itself has. The keys of Info aren't compared.
+    /// Returns whether an outcome answers a query of the file. A window has the samples of its rectangle, and Info the sides of the levels.
+    /// Of faults only the one of the query itself stands. The keys of Info aren't compared.
     pub fn is_answer(
         &self,
         alloc: Global,
@@ -115,7 +114,7 @@ impl Plain {
     }
 }
 
-/// A rectangle of a level, and the bytes of a pixel.
+/// A rectangle of a level, and the number of bytes of a pixel.
 #[derive(Clone, Copy)]
 struct Part {
     x: u32,
@@ -137,7 +136,7 @@ impl Part {
     }
 }
 
-/// Whether the bytes are the part of these rows.
+/// Returns whether the bytes are the part `part` of these rows.
 fn is_part(bytes: &[u8], rows: &[Vec<u8>], part: Part) -> bool {
     let Some(rows) = rows
         .get(part.y as usize..)

@@ -1,9 +1,9 @@
-//! Outcomes that are wanted, as values of constants.
+//! Expected outcomes, as values of constants.
 use crate::facts::{Facts, is_told};
 use cog_reader::{Outcome, Window};
 use tiff_dir::{FileFault, Pick, Query};
 
-/// The numbers of a window and its pick: x, y, w, h.
+/// The numbers x, y, w and h of a window, and its pick.
 pub type Numbers = (u32, u32, u32, u32, Pick);
 
 pub fn window(numbers: Numbers) -> Query {
@@ -11,12 +11,12 @@ pub fn window(numbers: Numbers) -> Query {
     Query::Window { x, y, w, h, pick }
 }
 
-/// A window of a level, by its number.
+/// Makes a window of level `n`.
 pub fn of_level(x: u32, y: u32, w: u32, h: u32, n: u32) -> Query {
     window((x, y, w, h, Pick::Level(n)))
 }
 
-/// The outcome that is wanted.
+/// The expected outcome.
 #[derive(Clone, Copy)]
 pub enum Want<'a> {
     /// Width, height, samples of a pixel, bits of a sample, and the bytes.
@@ -25,7 +25,7 @@ pub enum Want<'a> {
     Fault(FileFault),
 }
 
-/// Whether there is an outcome, and it is this one.
+/// Returns whether there is an outcome, and it is the expected one.
 pub fn is_wanted(outcome: Option<&Outcome>, want: Want<'_>) -> bool {
     match (outcome, want) {
         (Some(Outcome::Window(found)), Want::Window(w, h, samples, bits, bytes)) => {

@@ -5,10 +5,10 @@ use crate::wanted::{Numbers, Want};
 use tiff_dir::FileFault::{Outside, Packet, TileSize, TooManyDirs, Unsupported};
 use tiff_dir::Pick::{Columns, Level};
 
-/// The window of two rows in a file of one tile.
+/// The outcome of the window of two rows in a file of one tile.
 const SMALL: Want<'static> = Window(3, 2, 1, 8, &[0x12, 0x13, 0x14, 0x22, 0x23, 0x24]);
 
-/// The same in samples of 16 bits, most significant byte first.
+/// The same in samples of 16 bits, with the most significant byte first.
 const DEEP: Want<'static> = Window(
     3,
     2,
@@ -19,7 +19,7 @@ const DEEP: Want<'static> = Window(
     ],
 );
 
-/// The window where three of f4's tiles meet a fourth.
+/// The outcome of the window where three of f4's tiles meet a fourth.
 const CORNER: Want<'static> = Window(
     3,
     3,
@@ -37,10 +37,10 @@ const DAMAGED: Want<'static> = Fault(Packet);
 
 const COMPRESSED: Want<'static> = Fault(Unsupported(259));
 
-/// A file, bytes that are put at a place of it, a window of it, and the outcome.
+/// A file, bytes that are put at a place in it, a window of it, and the outcome.
 pub type WindowRow = (Fixture, (usize, &'static [u8]), Numbers, Want<'static>);
 
-/// Windows of files as they are.
+/// Windows of unchanged files.
 pub const WINDOWS: [(Fixture, Numbers, Want<'static>); 20] = [
     (F1, (2, 1, 3, 2, Level(0)), SMALL),
     (F1m, (2, 1, 3, 2, Level(0)), SMALL),
@@ -69,7 +69,7 @@ pub const WINDOWS: [(Fixture, Numbers, Want<'static>); 20] = [
     (F3, (0, 0, 1, 1, Columns(0)), OUTSIDE),
     (F4, (15, 15, 3, 3, Level(0)), CORNER),
     (F4, (17, 0, 4, 1, Level(0)), OUTSIDE),
-    // Two groups, each with two of the tiles.
+    // The window is in two groups, with two of its tiles in each.
     (
         F5,
         (255, 767, 2, 2, Level(0)),
@@ -89,7 +89,7 @@ pub const WINDOWS: [(Fixture, Numbers, Want<'static>); 20] = [
     ),
 ];
 
-/// Windows of files in which bytes are changed.
+/// Windows of files with changed bytes.
 pub const CHANGED: [WindowRow; 9] = [
     // A tag that isn't named is passed over, whatever its type.
     (
@@ -98,7 +98,7 @@ pub const CHANGED: [WindowRow; 9] = [
         (15, 15, 1, 1, Level(0)),
         Window(1, 1, 1, 8, &[0x10]),
     ),
-    // The last packet of the second level: its window is damaged, those of the first level aren't.
+    // The last packet of the second level is changed. Its window is damaged, and those of the first level aren't.
     (F3, (1454, &[0xf2]), (0, 0, 1, 1, Level(1)), DAMAGED),
     (
         F3,
@@ -114,7 +114,7 @@ pub const CHANGED: [WindowRow; 9] = [
         (16, 0, 1, 1, Level(0)),
         Window(1, 1, 3, 8, &[0x00, 0x01, 0xff]),
     ),
-    // A compression that isn't read.
+    // A compression that isn't accepted.
     (F1, (54, &[5]), (0, 0, 1, 1, Level(0)), COMPRESSED),
     (F6m, (55, &[5]), (0, 0, 1, 1, Level(0)), COMPRESSED),
     (F1, (118, &[8]), (0, 0, 1, 1, Level(0)), Fault(TooManyDirs)),

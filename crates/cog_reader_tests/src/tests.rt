@@ -16,7 +16,7 @@ mod windows;
 /// The first byte and the length of a range.
 type Range = (u64, u64);
 
-/// Whether these are the ranges.
+/// Returns whether the spans are these ranges.
 fn are_ranges(spans: &[Span], ranges: &[Range]) -> bool {
     spans.len() == ranges.len()
         && spans.iter().zip(ranges.iter()).all(|(span, range)| {

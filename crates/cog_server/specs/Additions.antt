@@ -1,5 +1,5 @@
--- What a server adds to its answers by option: the fields of the CORS protocol (Fetch standard, section 3.3), and that an answer is the last
--- (RFC 9112, section 9.6).
+-- What a server adds to its answers by option. One adds the fields of the CORS protocol (Fetch standard, section 3.3). The other adds that
+-- an answer is the last one of its connection (RFC 9112, section 9.6).
 use Rattle.std.specs.Prelude.{◌≡◌, ◌+◌, ◌&&◌, ◌==◌, ℕ, Bool, true, false, if◌then◌else◌, List, [], ◌∷◌, ◌++◌, codes, Option, Some, None, is_some}
 use Rattle.std.specs.Option.{option_map_or}
 use Rattle.std.specs.Str.{bytes_eq}
@@ -20,7 +20,7 @@ pub record AddedState : Type 0 where
 abbrev pub nothing_added : AddedState
 nothing_added = record { origin = None; announces_last = false }
 
--- what answers are made from: files, and what is added
+-- what answers are made from: the files, and what is added
 pub record ServiceState : Type 0 where
   pub catalogue : Catalogue
   pub added : AddedState
@@ -68,14 +68,14 @@ refuses_method reply = false
 abbrev pub answers_preflight : AddedState → Bool → Response → Bool
 answers_preflight added preflight r = is_some added.origin && (preflight && refuses_method r.reply)
 
--- the connection ends with the answer after n answers: the table says so, or it is the hundredth, and the last one is announced
+-- the connection ends with the answer that comes after `n` answers: the table says so, or it is the hundredth and the last is announced
 abbrev pub closes_by : AddedState → ℕ → Bool → Bool
 closes_by added n close = if added.announces_last && n + 1 == ANSWERS_LIMIT then true else close
 
 abbrev pub announced : AddedState → ℕ → Response → Response
 announced added n r = record r { close = closes_by added n r.close }
 
--- what is sent: the answer of the table, the status, and the bytes
+-- what is sent: the answer of the table, the status code, and the bytes
 pub record Sent : Type 0 where
   pub response : Response
   pub status : ℕ
@@ -102,7 +102,7 @@ sent_by added n preflight r =
     if answers_preflight added preflight r then sent_preflight (origin_fields added.origin) (announced added n r)
     else sent_with (origin_fields added.origin) (announced added n r)
 
--- it is sent for the head at the front of the message, after n answers
+-- `sent` is sent for the head at the front of the message, after `n` answers
 pub record IsSent (service : ServiceState) (n : ℕ) (message : List ℕ) (sent : Sent) : Type 0 where
   pub seen : Option SeenRequest
   pub reads : HasRequest message seen

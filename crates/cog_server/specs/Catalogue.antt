@@ -7,7 +7,7 @@ use Rattle.cog_server.specs.declared.published.Published.{Published}
 abbrev pub publication : Published → Publication
 publication p = record { name = p.name.items; tag = p.tag; file = rc_slice_items p.file }
 
--- stored at a place, or at the end
+-- `p` is stored at a place, or at the end
 abbrev pub put_at : Option ℕ → Publication → Catalogue → Catalogue
 put_at None p catalogue = catalogue ++ p ∷ []
 put_at (Some i) p catalogue = slice_set catalogue i p

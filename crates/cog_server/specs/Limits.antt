@@ -6,7 +6,8 @@ use Rattle.http_range.specs.Book.{IsCatalogue}
 use Rattle.cog_server.specs.declared.limits.TheConstants.{DROP_LIMIT, HEAD_ROOM, ORIGIN_LIMIT}
 use Rattle.cog_server.specs.Additions.{IsSent, Sent, ServiceState}
 
--- in numbers: the bytes of a file's name, of a host's and of a file, the names of a server, and the bytes dropped behind a last message
+-- In numbers: the bytes of a file's name, of a host's name and of a file. Then the names of a server, and the bytes that are dropped after
+-- a last message.
 pub record ServerLimitsAre : Type 0 where
   pub name : NAME_LIMIT ≡ 200
   pub host : HOST_LIMIT ≡ 64
@@ -14,7 +15,7 @@ pub record ServerLimitsAre : Type 0 where
   pub names : NAMES_LIMIT ≡ 64
   pub dropped : DROP_LIMIT ≡ 65_536
 
--- What is sent has at most as many bytes as the body of the answer and the room for a head, where an origin has at most the bytes allowed.
+-- Let an origin have at most the bytes that are allowed. Then what is sent fits into the room for a head and the bytes of the body.
 abbrev pub HeadsHaveRoom : Type 0
 HeadsHaveRoom =
     (service : ServiceState) (n : ℕ) (message : List ℕ) (sent : Sent) → IsCatalogue service.catalogue

@@ -9,7 +9,7 @@ use Rattle.cog_server.specs.declared.placed.Prepared.{Prepared}
 abbrev pub response_of : Prepared → Response
 response_of p = record { reply = p.reply; close = p.close; name = option_copied p.name; body = p.body.now }
 
--- it is the answer of the table to the head at the front of the message, which is a preflight or isn't
+-- `p` is the answer of the table to the head at the front of the message, which is a preflight or isn't
 pub record IsPrepared (catalogue : Catalogue) (message : List ℕ) (p : Prepared) : Type 0 where
   pub seen : Option SeenRequest
   pub reads : HasRequest message seen

@@ -1,16 +1,16 @@
--- Reading what comes next on a connection, where failures of the inlet and want of memory may end it.
+-- Reading what comes next on a connection. A failure of the inlet may end it, and so may a lack of memory.
 use Rattle.std.specs.Prelude.{◌≡◌, ◌≢◌, ◌≤◌, Bool, true, false, ℕ, List, [], ◌∷◌, length, Option, Result, Ok, Err}
 use Rattle.std.specs.Io.KnownBytes.{append_known}
 use Rattle.cog_server.specs.Status.{Status, room_of, after_bytes, after_end, is_closing}
 use Rattle.cog_server.specs.declared.served.ServeError.{ServeError}
 use Rattle.cog_server.specs.declared.served.ServeError.TheVariants.{Read, Write, Memory}
 
--- bytes came, or none, which is the end
+-- bytes came, or none, which means the end
 abbrev pub after_read : List ℕ → Status → Status
 after_read [] s = after_end s
 after_read (b ∷ bytes) s = after_bytes (b ∷ bytes) s
 
--- what the inlet gave, no more than there is room for
+-- what the inlet gave: no more bytes than there is room for
 pub record Gives (s : Status) (given given' : Option (List ℕ)) (has_failed : Bool) (bytes : List ℕ) : Type 0 where
   pub room : length bytes ≤ room_of s
   pub gave : given' ≡ append_known given bytes
@@ -23,7 +23,7 @@ pub record IsReceived (s s' : Status) (given given' : Option (List ℕ)) (is_ove
   pub status : s' ≡ after_read bytes s
   pub ends : bytes ≡ [] → is_over
 
--- there was no memory for the bytes that came, which were to be kept
+-- memory ran out for the bytes that came, which were to be kept
 pub record IsLost (s : Status) (given given' : Option (List ℕ)) (has_failed : Bool) : Type 0 where
   pub bytes : List ℕ
   pub some : bytes ≢ []

@@ -1,4 +1,4 @@
--- Whole runs of a connection: what came, what is written, and which message was answered from which catalogue.
+-- Whole runs of a connection: what came, what was written, and from which catalogue each message was answered.
 use Rattle.std.specs.Prelude.{◌≡◌, ◌≤◌, ◌⊎◌, ℕ, suc, true, false, List, [], ◌∷◌, ◌++◌, length, map, take, ⊤}
 use Rattle.std.specs.List.{list_any, flat_map}
 use Rattle.http_fields.specs.declared.limits.TheConstants.{ANSWERS_LIMIT}
@@ -9,18 +9,18 @@ use Rattle.cog_server.specs.Additions.{IsSent, Sent, ServiceState, plain}
 use Rattle.cog_server.specs.Serve.{AreFirstAnswers}
 use Rattle.cog_server.specs.Status.{Status, start, is_closing, room_of, IsNext, after_bytes, after_end, after_answer, after_write}
 
--- a message, and what is sent for it by the service of its moment
+-- a message, and what is sent for it by the service at that moment
 pub record Exchange : Type 0 where
   pub service : ServiceState
   pub message : List ℕ
   pub sent : Sent
 
--- the message is whole by itself, and what is sent is its own, after n answers
+-- the message is whole by itself, and `sent` is what is sent for it after `n` answers
 pub record IsExchange (n : ℕ) (e : Exchange) : Type 0 where
   pub whole : IsFirstMessage e.message e.message
   pub answers : IsSent e.service n e.message e.sent
 
--- after n answers; no message stands after one whose answer closes
+-- exchanges after `n` answers; no message follows one whose answer closes
 abbrev pub AreExchanges : ℕ → List Exchange → Type 0
 AreExchanges n [] = ⊤
 AreExchanges n (e ∷ es) = IsExchange n e × (e.sent.response.close ≡ true → es ≡ []) × AreExchanges (suc n) es
@@ -41,8 +41,8 @@ pub record Past : Type 0 where
   pub exchanges : List Exchange
   pub status : Status
 
--- What came begins with the messages that were answered. What is written and what waits, together, are the answers to them, each
--- by the service of its moment. What came after the message with the last answer is lost, and nothing before.
+-- What came begins with the messages that were answered. What is written and what waits are together the answers to them, each by
+-- the service of its moment. What came after the message with the last answer is lost, and nothing before it.
 pub record IsAnsweredAlone (p : Past) : Type 0 where
   pub lost : List ℕ
   pub lawful : AreExchanges 0 p.exchanges
@@ -71,7 +71,7 @@ CanHappen Came_to_end s = ⊤
 CanHappen (Answered e) s = IsNext e.service s e.message e.sent
 CanHappen (Wrote n) s = n ≤ length s.waiting
 
--- what each event makes of it; the status is what the call's contract says
+-- what an event makes of the past; the status is what the contract of the call says
 abbrev pub happened : Event → Past → Past
 happened (Came bytes) p = record {
   given = p.given ++ bytes;
@@ -98,12 +98,12 @@ abbrev pub run : List Event → Past → Past
 run [] p = p
 run (e ∷ es) p = run es (happened e p)
 
--- each event happens where it may
+-- each event is one that may happen then
 abbrev pub CanRun : List Event → Past → Type 0
 CanRun [] p = ⊤
 CanRun (e ∷ es) p = CanHappen e p.status × CanRun es (happened e p)
 
--- whatever happens
+-- this holds of all runs
 abbrev pub RunsAreAnswered : Type 0
 RunsAreAnswered = (events : List Event) → CanRun events none_yet → IsAnsweredAlone (run events none_yet)
 
@@ -113,13 +113,13 @@ abbrev pub AreFrom : ServiceState → List Exchange → Type 0
 AreFrom service [] = ⊤
 AreFrom service (e ∷ es) = (e.service ≡ service) × AreFrom service es
 
--- The answers are the first ones to what came, and they are sent as they are. Where no further message can be answered, they are all of
--- them.
+-- The answers are the first answers to what came, and they are sent without added fields. If no further message can be answered, they
+-- are all of the answers.
 pub record IsServedAlone (catalogue : Catalogue) (p : Past) : Type 0 where
   pub first : AreFirstAnswers catalogue p.given (responses_of p.exchanges)
   pub sent : texts_of p.exchanges ≡ answers_text (responses_of p.exchanges)
   pub all : (is_closing p.status ≡ true) ⊎ IsUnfinished p.status.held → IsAnswered catalogue p.given (responses_of p.exchanges)
 
--- where nothing is published meanwhile, and nothing added
+-- this holds if nothing is published meanwhile, and nothing is added
 abbrev pub RunsAreServed : Type 0
 RunsAreServed = (catalogue : Catalogue) (p : Past) → IsAnsweredAlone p → AreFrom (plain catalogue) p.exchanges → IsServedAlone catalogue p

@@ -1,4 +1,4 @@
--- What others know of the readers and writers here.
+-- What callers know of the readers and writers of this crate.
 use Rattle.std.specs.Prelude.{ℕ, min, max, Bool, List, [], ◌∷◌, take, drop, Option, Some, None}
 use Rattle.cog_server.specs.declared.stream.Stream.{Stream}
 use Rattle.cog_server.specs.declared.scripted.AfterBytes.{AfterBytes}
@@ -7,7 +7,7 @@ use Rattle.cog_server.specs.declared.scripted.AfterPieces.TheVariants.{All, Zero
 use Rattle.cog_server.specs.declared.scripted.ScriptedInlet.{ScriptedInlet}
 use Rattle.cog_server.specs.declared.scripted.ScriptedOutlet.{ScriptedOutlet}
 
--- a call of the reader or writer has failed, or a write has taken nothing
+-- a call of the reader or writer failed, or a write took nothing
 abbrev pub stream_failed : {T : Type 0} → Stream T → Bool
 stream_failed s = s.failed
 
@@ -15,7 +15,7 @@ stream_failed s = s.failed
 abbrev pub inner_of : {T : Type 0} → Stream T → T
 inner_of s = s.inner
 
--- a read into some room has given no byte
+-- a read into some room gave no byte
 abbrev pub stream_ended : {T : Type 0} → Stream T → Bool
 stream_ended s = s.ended
 
@@ -30,7 +30,7 @@ inlet_pieces s = s.pieces.items
 abbrev pub after_bytes : ScriptedInlet → AfterBytes
 after_bytes s = s.after
 
--- those that were given, and those that are left
+-- the bytes that were given, and those that are left
 abbrev pub script_given : ScriptedInlet → List ℕ
 script_given s = take s.position s.bytes.items
 
@@ -41,7 +41,7 @@ script_left s = drop s.position s.bytes.items
 abbrev pub pieces_left : ScriptedInlet → List ℕ
 pieces_left s = drop s.reads s.pieces.items
 
--- which of the bytes that are left come next: as many as the next size says, and one at least; where no size is left, all
+-- which of the bytes that are left come next: as many as the next size says, but at least one; without a size, all
 abbrev pub next_piece : (sizes left : List ℕ) → List ℕ
 next_piece [] left = left
 next_piece (size ∷ sizes) left = take (max size 1) left
@@ -49,7 +49,7 @@ next_piece (size ∷ sizes) left = take (max size 1) left
 abbrev pub inlet_failed : ScriptedInlet → Bool
 inlet_failed s = s.failed
 
--- the sizes of its pieces, and what follows them
+-- the sizes of its pieces, and what follows the pieces
 abbrev pub outlet_pieces : ScriptedOutlet → List ℕ
 outlet_pieces s = s.pieces.items
 
@@ -60,7 +60,7 @@ after_pieces s = s.after
 abbrev pub sizes_left : ScriptedOutlet → List ℕ
 sizes_left s = drop s.writes s.pieces.items
 
--- how many of so many bytes come next: no more than the next size; where no size is left, what follows the pieces says it
+-- how many of `many` bytes come next: at most the next size; if no size is left, what follows the pieces says it
 abbrev pub next_taken : (sizes : List ℕ) → AfterPieces → (many : ℕ) → Option ℕ
 next_taken (size ∷ sizes) after many = Some (min size many)
 next_taken [] All many = Some many

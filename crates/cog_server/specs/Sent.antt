@@ -1,4 +1,4 @@
--- Writing an answer, where want of memory and failures of the outlet may end it.
+-- Writing an answer. A lack of memory may end it, and so may a failure of the outlet.
 use Rattle.std.specs.Prelude.{◌≡◌, Bool, true, false, ℕ, List, Option, Result, Ok, Err}
 use Rattle.std.specs.Io.KnownBytes.{append_known}
 use Rattle.http_range.specs.Honest.{IsFront}
@@ -22,7 +22,7 @@ pub record IsUnwritten (taken taken' : Option (List ℕ)) (has_failed : Bool) : 
   pub same : taken' ≡ taken
   pub unfailed : has_failed ≡ false
 
--- a text was written, or a beginning of it where writing failed; want of memory comes before
+-- the text was written, or a beginning of it if writing failed, or nothing if memory ran out
 abbrev pub Writes : {A : Type 0} → Option (List ℕ) → Option (List ℕ) → Bool → List ℕ → Result A ServeError → Type 0
 Writes taken taken' has_failed text (Ok a) = IsWritten taken taken' has_failed text
 Writes taken taken' has_failed text (Err Read) = ⊥

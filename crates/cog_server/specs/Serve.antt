@@ -12,26 +12,26 @@ use Rattle.cog_server.specs.declared.served.Served.{Served}
 use Rattle.cog_server.specs.declared.served.ServeError.{ServeError}
 use Rattle.cog_server.specs.declared.served.ServeError.TheVariants.{Read, Write, Memory}
 
--- In what follows stream is what was read and text is what was written.
+-- In what follows `stream` is what was read, and `text` is what was written.
 
--- the answers to the first messages of a stream, as many as these are
+-- the answers to the first messages of a stream, one for each of these messages
 pub record AreFirstAnswers (catalogue : Catalogue) (stream : List ℕ) (rs : List Response) : Type 0 where
   pub few : length rs ≤ ANSWERS_LIMIT
   pub answers : AreAnswers catalogue (length rs) stream rs
 
--- they begin all answers to it
+-- all answers to the stream begin with them
 abbrev pub FirstAnswersBegin : Type 0
 FirstAnswersBegin =
     (catalogue : Catalogue) (stream : List ℕ) (rs all : List Response) → AreFirstAnswers catalogue stream rs
     → IsAnswered catalogue stream all → (rest : List Response) × (rs ++ rest ≡ all)
 
--- rest stands behind the first n messages of the stream
+-- `rest` follows the first `n` messages of the stream
 abbrev pub IsBehind : ℕ → List ℕ → List ℕ → Type 0
 IsBehind zero stream rest = stream ≡ rest
 IsBehind (suc n) stream rest =
     (message : List ℕ) × IsFirstMessage stream message × IsBehind n (drop (length message) stream) rest
 
--- at most 8,191 bytes were read behind the first n messages
+-- at most 8,191 bytes were read after the first `n` messages
 pub record IsLittleAhead (n : ℕ) (stream : List ℕ) : Type 0 where
   pub rest : List ℕ
   pub behind : IsBehind n stream rest
@@ -42,7 +42,7 @@ ending_told told_closed = Closed
 ending_told told_limit = Limit
 ending_told told_end = EndOfInput
 
--- all answers to the stream are written, and little was read behind their messages; at its end, the input is over
+-- All answers to the stream are written, and little was read after their messages. If they ended with the input, no more input comes.
 pub record IsServed (catalogue : Catalogue) (stream text : List ℕ) (is_over : Type 0) (served : Served) : Type 0 where
   pub rs : List Response
   pub answers : IsAnswered catalogue stream rs
@@ -52,7 +52,7 @@ pub record IsServed (catalogue : Catalogue) (stream text : List ℕ) (is_over : 
   pub over : ending_of rs ≡ EndOfInput → is_over
   pub ahead : IsLittleAhead (length rs) stream
 
--- all answers to the stream are written, and there may be more to come
+-- all answers to the stream are written, and more may come
 pub record IsReadSoFar (catalogue : Catalogue) (stream text : List ℕ) : Type 0 where
   pub rs : List Response
   pub answers : IsAnswered catalogue stream rs
@@ -60,7 +60,7 @@ pub record IsReadSoFar (catalogue : Catalogue) (stream text : List ℕ) : Type 0
   pub ending : ending_of rs ≡ EndOfInput
   pub ahead : IsLittleAhead (length rs) stream
 
--- the first answers are written whole, and of the next one a front, and little was read behind their messages
+-- The first answers are written whole, and a front of the next one. Little was read after their messages.
 pub record IsWrittenSoFar (catalogue : Catalogue) (stream text : List ℕ) : Type 0 where
   pub whole : List Response
   pub last : Response
@@ -76,14 +76,14 @@ pub record AreWritten (catalogue : Catalogue) (stream text : List ℕ) : Type 0 
   pub answers : AreFirstAnswers catalogue stream rs
   pub written : text ≡ answers_text rs
 
--- what serving ends with; is_over is that nothing more comes
+-- how serving ends; `is_over` means that nothing more comes
 abbrev pub Serves : Catalogue → List ℕ → List ℕ → Type 0 → Result Served ServeError → Type 0
 Serves catalogue stream text is_over (Ok served) = IsServed catalogue stream text is_over served
 Serves catalogue stream text is_over (Err Read) = IsReadSoFar catalogue stream text
 Serves catalogue stream text is_over (Err Write) = IsWrittenSoFar catalogue stream text
 Serves catalogue stream text is_over (Err Memory) = AreWritten catalogue stream text
 
--- a read failed exactly where Read is told, and a write exactly where Write is
+-- a read failed exactly if the result is `Read`, and a write exactly if it is `Write`
 abbrev pub read_failed : Result Served ServeError → Bool
 read_failed (Ok served) = false
 read_failed (Err Read) = true

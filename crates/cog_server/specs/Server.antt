@@ -10,7 +10,7 @@ use Rattle.cog_server.specs.declared.error.PublishError.{PublishError}
 use Rattle.cog_server.specs.declared.error.PublishError.TheVariants.{Name, Empty, TooLarge, TooManyNames, Exhausted, Memory}
 use Rattle.cog_server.specs.declared.server.Answer.{Answer}
 
--- what others know of a server
+-- what callers know of a server
 pub record ServerState : Type 0 where
   pub epoch : ℕ
   pub count : ℕ  -- how many publications of the epoch were accepted
@@ -18,7 +18,7 @@ pub record ServerState : Type 0 where
 
 -- ---- publications
 
--- why a file isn't published after so many publications of the epoch, the first that holds
+-- why a file isn't published after `count` publications of the epoch: the first reason that holds
 abbrev pub refusal_of : (count : ℕ) → Catalogue → (name file : List ℕ) → Option PublishError
 refusal_of count catalogue name file =
     if not (is_name name) then Some Name
@@ -28,11 +28,11 @@ refusal_of count catalogue name file =
     else if count == 4294967295 then Some Exhausted
     else None
 
--- the refusal is that one, or want of memory where there is none
+-- the refusal is this one, or a lack of memory if there is none
 abbrev pub IsRefusal : Option PublishError → PublishError → Type 0
 IsRefusal refusal e = (refusal ≡ Some e) ⊎ ((refusal ≡ None) × (e ≡ Memory))
 
--- every other name has the file that it had, and what asks for it is answered as it was
+-- every other name has the file that it had, and requests for it are answered as before
 pub record OthersStay (name : List ℕ) (old new : Catalogue) : Type 0 where
   pub files : (other : List ℕ) → other ≢ name → published other new ≡ published other old
   pub answers : (r : SeenRequest) → target_name r ≢ name → answer_by new (Some r) ≡ answer_by old (Some r)
@@ -47,7 +47,7 @@ number_of_refusal Memory = 6
 
 -- ---- answers
 
--- the answer that is given is the one that is to be sent
+-- the answer that is returned is the one that is to be sent
 pub record ShowsAnswer (a : Answer) (s : Response) : Type 0 where
   pub text : a.text.items ≡ text_of s
   pub close : a.close ≡ s.close
@@ -55,7 +55,7 @@ pub record ShowsAnswer (a : Answer) (s : Response) : Type 0 where
   pub status : a.status ≡ status_of s.reply
   pub body : a.body ≡ length s.body
 
--- the answer is the one to this message
+-- `a` is the answer to this message
 pub record IsAnswered (catalogue : Catalogue) (message : List ℕ) (a : Answer) : Type 0 where
   pub response : Response
   pub answers : IsAnswer catalogue message response

@@ -1,4 +1,4 @@
--- What others know of a connection, and what each call makes of it (RFC 9112, sections 9.3 and 9.6).
+-- What callers know of a connection, and what each call makes of it (RFC 9112, sections 9.3 and 9.6).
 use Rattle.std.specs.Prelude.{◌≡◌, ◌≢◌, ◌⊎◌, ◌==◌, ◌||◌, ◌&&◌, ◌+◌, ◌-◌, ℕ, min, nat_le, not, Bool, true, false, if◌then◌else◌, List, [], ◌++◌, length, drop, Option, Some, None}
 use Rattle.std.specs.List.{list_any}
 use Rattle.std.specs.Option.{option_map_or}
@@ -14,13 +14,13 @@ use Rattle.cog_server.specs.declared.served.Ended.{Ended}
 use Rattle.cog_server.specs.declared.served.Ended.TheVariants.{Closed, Limit, EndOfInput}
 
 pub record Status : Type 0 where
-  pub held : List ℕ  -- what came and isn't answered
-  pub waiting : List ℕ  -- what of the last answer isn't written
-  pub is_closed : Bool  -- an answer closes
-  pub answers : ℕ  -- how many were given
+  pub held : List ℕ  -- what came and isn't answered yet
+  pub waiting : List ℕ  -- what of the last answer isn't written yet
+  pub is_closed : Bool  -- an answer was given that closes
+  pub answers : ℕ  -- how many answers were given
   pub is_over : Bool  -- nothing more comes
-  pub dropped : ℕ  -- how many bytes after the last message came to nothing
-  pub tag : Option (List ℕ)  -- of the file whose bytes are kept for the answer that isn't written
+  pub dropped : ℕ  -- how many bytes after the last message were dropped
+  pub tag : Option (List ℕ)  -- the ETag of the file whose bytes are kept for the answer that isn't written
 
 abbrev pub start : Status
 start = record { held = []; waiting = []; is_closed = false; answers = 0; is_over = false; dropped = 0; tag = None }
@@ -36,7 +36,7 @@ room_of s =
     else if is_closing s then min MESSAGE_LIMIT (DROP_LIMIT - s.dropped)
     else MESSAGE_LIMIT - length s.held
 
--- bytes came; behind the last message they come to nothing
+-- bytes came; after the last message they are dropped
 abbrev pub after_bytes : List ℕ → Status → Status
 after_bytes bytes s =
     if is_closing s then record s { dropped = s.dropped + length bytes } else record s { held = s.held ++ bytes }
@@ -45,20 +45,20 @@ after_bytes bytes s =
 abbrev pub after_end : Status → Status
 after_end s = record s { is_over = true }
 
--- n bytes of what waits are written; after the last one no file is kept
+-- `n` bytes of what waits are written; after the last one no file is kept
 abbrev pub after_write : ℕ → Status → Status
 after_write n s = record s { waiting = drop n s.waiting; tag = if length (drop n s.waiting) == 0 then None else s.tag }
 
 -- ---- answers
 
--- the message is answered next: none that closes came before, the one before is written, and it is whole
+-- The message is answered next. It is whole, the answer before it is written, and an answer may still follow.
 pub record IsNext (service : ServiceState) (s : Status) (message : List ℕ) (sent : Sent) : Type 0 where
   pub goes_on : is_closing s ≡ false
   pub written : s.waiting ≡ []
   pub first : IsFirstMessage s.held message
   pub answers : IsSent service s.answers message sent
 
--- the tag of the file that the answer is of
+-- the ETag of the file that the answer is of
 abbrev pub tag_of : Reply → Option (List ℕ)
 tag_of (R200 tag length) = Some tag
 tag_of (R206 tag first last length) = Some tag
@@ -87,23 +87,23 @@ after_answer message sent s = let_go (after_message message sent s)
 abbrev pub Rests : Status → Type 0
 Rests s = (is_closing s ≡ true) ⊎ ((s.waiting ≢ []) ⊎ IsUnfinished s.held)
 
--- the next message is answered, by an answer of this status, or none is
+-- the next message is answered, with this status code, or none is
 abbrev pub GoesOnBy : ServiceState → Status → Status → Option ℕ → Type 0
 GoesOnBy service old new (Some status) =
     (message : List ℕ) × (sent : Sent) × IsNext service old message sent × (new ≡ after_answer message sent old) × (status ≡ sent.status)
 GoesOnBy service old new None = (new ≡ old) × Rests old
 
--- where nothing is added
+-- the same with nothing added
 abbrev pub GoesOn : Catalogue → Status → Status → Option ℕ → Type 0
 GoesOn catalogue old new status = GoesOnBy (plain catalogue) old new status
 
--- the bytes that are kept are of a file that is published no more
+-- the bytes that are kept are of a file that is no longer published
 abbrev pub is_outdated : Catalogue → Status → Bool
 is_outdated catalogue s = option_map_or (λ tag. not (list_any (λ p. bytes_eq p.tag tag) catalogue)) s.tag false
 
 -- ---- the end
 
--- how the answers ended, once all are written; None is that they haven't
+-- how the answers ended, once all are written; `None` if they haven't
 abbrev pub EndsBy : Status → Option Ended → Type 0
 EndsBy s (Some Closed) = (s.waiting ≡ []) × (s.is_closed ≡ true)
 EndsBy s (Some Limit) = (s.waiting ≡ []) × (s.is_closed ≡ false) × (s.answers ≡ ANSWERS_LIMIT)

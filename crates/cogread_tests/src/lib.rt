@@ -1,4 +1,4 @@
-//! Tests of what `cogread` prints over a server in memory: windows, Info, descriptions, faults, and what it tells of its exchanges.
+//! Tests of what `cogread` prints over a server in memory: windows, Info, descriptions, faults, and lines about its exchanges.
 #![tactic(auto)]
 
 #[cfg(test)]

@@ -19,27 +19,27 @@ abbrev pub after_path : Option (List ℕ) → List ℕ
 after_path None = []
 after_path (Some query) = codes "?" ++ query
 
--- what is asked for: the path, and the query behind it (RFC 9112, section 3.2.1)
+-- what is asked for: the path, and the query after it (RFC 9112, section 3.2.1)
 abbrev pub target_text : Parts → List ℕ
 target_text url = url.path ++ after_path url.query
 
--- the word begins so, in letters of either case
+-- the word begins with `front`, in letters of either case
 abbrev pub BeginsWith : (front word : List ℕ) → Type 0
 BeginsWith front word = map to_ascii_lowercase (take (length front) word) ≡ map to_ascii_lowercase front
 
--- the word is a URL of the web, whose scheme may have capitals (RFC 3986, section 3.1), and no server's `HOST:PORT`
+-- the word is a URL of the web, whose scheme may have capitals (RFC 3986, section 3.1), and not a server's `HOST:PORT`
 abbrev pub IsUrl : List ℕ → Type 0
 IsUrl word = BeginsWith (codes "http://") word ⊎ BeginsWith (codes "https://") word
 
--- what follows the first byte c of a text that has one
+-- what follows the first byte `c` of a text, if the text has one
 abbrev pub behind_first : (c : ℕ) → List ℕ → Option (List ℕ)
 behind_first c text = if nat_lt (position_or_len (λ b. b == c) text) (length text) then Some (after_first (λ b. b == c) text) else None
 
--- what follows the two slashes of a text that begins with them
+-- what follows two slashes, if the text begins with them
 abbrev pub behind_slashes : List ℕ → Option (List ℕ)
 behind_slashes text = if starts_with eqb text (codes "//") then Some (drop 2 text) else None
 
--- the name in a URL as it was typed: what follows the first slash behind `SCHEME://`
+-- the name in a URL as it was typed: what follows the first slash after `SCHEME://`
 abbrev pub name_typed : List ℕ → Option (List ℕ)
 name_typed word = option_and_then (behind_first 47) (option_and_then behind_slashes (behind_first 58 word))
 
@@ -47,7 +47,7 @@ name_typed word = option_and_then (behind_first 47) (option_and_then behind_slas
 abbrev pub target_typed : List ℕ → Option (List ℕ)
 target_typed word = option_map (λ name. codes "/" ++ name) (name_typed word)
 
--- this is wrong with the parts in front of the path
+-- this is wrong with the parts before the path
 abbrev pub IsFrontError : Parts → FileUrlError → Type 0
 IsFrontError url Tls = url.scheme ≡ codes "https"
 IsFrontError url Scheme = (url.scheme ≢ codes "http") × (url.scheme ≢ codes "https")
@@ -60,7 +60,8 @@ IsTypedError word target NoPath = target_typed word ≡ None
 IsTypedError word target Target = IsSomeAnd (target_typed word) (λ typed. typed ≢ target)
 IsTypedError word target error = ⊥
 
--- This is wrong with the word: it is no URL (or one of 4 GB), or its front is wrong, or path and query aren't as they were typed; or memory is wanting.
+-- This is wrong with the word. It is no URL (or one of 4 GB), its front is wrong, or path and query aren't as they were typed. Or memory
+-- ran out.
 abbrev pub IsFileUrlError : List ℕ → FileUrlError → Type 0
 IsFileUrlError word Memory = ⊤
 IsFileUrlError word (NotAUrl error) = (parse_url None word ≡ Err error) ⊎ (error ≡ Overflow)
@@ -70,8 +71,8 @@ IsFileUrlError word Target = (url : Parts) × (parse_url None word ≡ Ok url) �
     × IsSomeAnd (target_typed word) (λ typed. typed ≢ target_text url)
 IsFileUrlError word error = (url : Parts) × (parse_url None word ≡ Ok url) × IsFrontError url error
 
--- The word names this: the URL Standard's parser takes it, it is of `http` without a user's name or a password, and it was typed as it is
--- asked for. The server has port 80 where the URL has none (RFC 9110, section 4.2.1).
+-- The word names this. The URL Standard's parser takes it, and it is of `http` without a user's name or a password. It was typed as it is
+-- asked for. The server has port 80 if the URL has no port (RFC 9110, section 4.2.1).
 pub record Names (word : List ℕ) (named : FileUrl) : Type 0 where
   pub url : Parts
   pub parsed : parse_url None word ≡ Ok url

@@ -5,7 +5,7 @@ use Rattle.std.specs.List.{AllZip, after_first, before_first, position_or_len}
 use Rattle.command_lines.specs.FileName.{name_of_path}
 use Rattle.command_lines.specs.declared.given_files.NamedFile.{NamedFile}
 
--- A word with a `=` (61) gives the name before its first one and the path behind it; one without is the path, and gives the name that is made
+-- A word with a `=` (61) has the name before its first one and the path after it. A word without one is the path, and the name is made
 -- from it.
 pub record IsNamedFile (word : List ℕ) (file : NamedFile) : Type 0 where
   pub named : position_or_len (λ b. b == 61) word < length word
@@ -32,6 +32,6 @@ IsOfName name files file = HasName name file × ((k : ℕ) × (k < length files)
 abbrev pub HaveOwnNames : List NamedFile → Type 0
 HaveOwnNames files = (k : ℕ) (d : NamedFile) → k < length files → HaveOtherNames (string_bytes (slice_index_or files k d).name) (take k files)
 
--- the second is a file that has the name of an earlier one, which is the first
+-- `second` is a file with the name of an earlier one, which is `first`
 abbrev pub AreOfOneName : List NamedFile → (first second : NamedFile) → Type 0
 AreOfOneName files first second = (k : ℕ) × (k < length files) × (slice_index_or files k second ≡ second) × IsOfName (string_bytes second.name) (take k files) first

@@ -1,4 +1,4 @@
--- The two forms of a line of `cogserve`, and what words of the one without options that have to stand give.
+-- The two forms of a line of `cogserve`, and what the words of the form without required options give.
 use Rattle.std.specs.Prelude.{◌≡◌, ◌&&◌, ◌==◌, if◌then◌else◌, true, false, ℕ, Bool, List, [], ◌∷◌, Some, codes, map, option_map}
 use Rattle.std.specs.List.{before_first}
 use Rattle.std.specs.Str.{bytes_eq}
@@ -12,7 +12,7 @@ use Rattle.command_lines.specs.declared.quick.StartLine.TheVariants.{Full, Quick
 abbrev pub option_name : List ℕ → List ℕ
 option_name word = before_first (λ b. b == 61) word
 
--- an option of this name stands before a word `--`, after which all are files
+-- an option of this name stands before the first word `--`, after which all words are files
 abbrev pub has_option : (name : List ℕ) → List (List ℕ) → Bool
 has_option name [] = false
 has_option name (word ∷ words) = if bytes_eq word (codes "--") then false else if bytes_eq (option_name word) name then true else has_option name words
@@ -42,7 +42,7 @@ pub record HasQuickValues (matches : List Row) (line : QuickLine) : Type 0 where
   pub log : Tells (one_of (codes "log") matches) line.log
   pub files : all_of (codes "files") matches ≡ Some (map (λ file. file.now) line.files.items)
 
--- The line is of the form that its words are of, and has what that form's command gives.
+-- The line is of the form of its words, and has what that form's command gives.
 abbrev pub HasStart : List (List ℕ) → StartLine → Type 0
 HasStart words (Full line) = (is_full words ≡ true) × HasValues (matches_of serve_app words) line
 HasStart words (Quick line) = (is_full words ≡ false) × HasQuickValues (matches_of quick_app words) line

@@ -9,7 +9,7 @@ use Rattle.command_lines.specs.declared.read.BoundsWords.{BoundsWords}
 use Rattle.command_lines.specs.declared.read.ReadLine.{ReadLine}
 use Rattle.command_lines.specs.declared.read.WindowWords.{WindowWords}
 
--- the value of a word that has to stand
+-- the value of a required word
 abbrev pub word_of : (name : List ℕ) → List Row → List ℕ
 word_of name matches = unwrap_or (first_of name matches) []
 
@@ -22,7 +22,7 @@ pub record HasWindow (matches : List Row) (window : WindowWords) : Type 0 where
   pub level : first_of (codes "level") matches ≡ option_map (λ word. word.now) window.level
   pub columns : first_of (codes "columns") matches ≡ option_map (λ word. word.now) window.columns
 
--- four values stand
+-- there are four values
 pub record IsOfFour (values : Option (List (List ℕ))) : Type 0 where
   pub west : List ℕ
   pub south : List ℕ
@@ -35,7 +35,7 @@ pub record HasBounds (matches : List Row) (bounds : BoundsWords) : Type 0 where
   pub sides : all_of (codes "bounds") matches ≡ Some (bounds.west.now ∷ bounds.south.now ∷ bounds.east.now ∷ bounds.north.now ∷ [])
   pub level : first_of (codes "level") matches ≡ option_map (λ word. word.now) bounds.level
 
--- the line has the values of these matches, whatever it asks
+-- the line has the values of these matches, whatever it asks for
 pub record HasLine (matches : List Row) (line : ReadLine) : Type 0 where
   pub server : line.server.now ≡ word_of (codes "SERVER") matches
   pub name : line.name.now ≡ word_of (codes "NAME") matches
@@ -49,7 +49,8 @@ pub record HasLine (matches : List Row) (line : ReadLine) : Type 0 where
   pub verbose : Tells (one_of (codes "verbose") matches) line.verbose
   pub progress : Tells (one_of (codes "progress") matches) line.progress
 
--- A window, the whole of a level or a rectangle is asked for by these matches. Without `--whole` it is a rectangle exactly if four values stand.
+-- These matches ask for a window, the whole of a level or a rectangle. Without `--whole` they ask for a rectangle exactly if there are four
+-- values.
 abbrev pub AsksWindow : List Row → AskedWords → Type 0
 AsksWindow matches (Window window) = Tells (one_of (codes "whole") matches) false × ¬ IsOfFour (all_of (codes "bounds") matches)
     × HasWindow matches window
@@ -57,7 +58,7 @@ AsksWindow matches (Bounds bounds) = Tells (one_of (codes "whole") matches) fals
 AsksWindow matches (Whole level) = Tells (one_of (codes "whole") matches) true × (first_of (codes "level") matches ≡ option_map (λ word. word.now) level)
 AsksWindow matches asked = ⊥
 
--- A description is asked for by these matches.
+-- These matches ask for a description.
 abbrev pub AsksDescription : List Row → AskedWords → Type 0
 AsksDescription matches (Description is_json) = Tells (one_of (codes "json") matches) is_json
 AsksDescription matches asked = ⊥
@@ -68,7 +69,8 @@ pub record Asks (name : List ℕ) (matches : List Row) (asked : AskedWords) : Ty
   pub description : name ≡ codes "describe" → AsksDescription matches asked
   pub info : name ≢ codes "window" → name ≢ codes "describe" → asked ≡ Info
 
--- The line has the values of a subcommand's matches, and asks what its name says; without a subcommand it has those of the command.
+-- The line has the values of a subcommand's matches, and asks for what its name says. Without a subcommand it has those of the command, and
+-- asks for Info.
 abbrev pub HasFound : (subcommand : Option (List ℕ × List Row)) → (own : List Row) → ReadLine → Type 0
 HasFound None own line = HasLine own line × (line.asked ≡ Info)
 HasFound (Some (name, matches)) own line = HasLine matches line × Asks name matches line.asked
@@ -77,7 +79,7 @@ HasFound (Some (name, matches)) own line = HasLine matches line × Asks name mat
 abbrev pub AreHeaders : List Row → List (Bor (List ℕ)) → Type 0
 AreHeaders matches headers = unwrap_or (all_of (codes "header") matches) [] ≡ map (λ (header : Bor (List ℕ)). header.now) headers
 
--- So they are of a subcommand's matches, or without a subcommand of the command's.
+-- The field lines are those of a subcommand's matches, or, without a subcommand, those of the command's.
 abbrev pub HasHeaders : (subcommand : Option (List ℕ × List Row)) → (own : List Row) → List (Bor (List ℕ)) → Type 0
 HasHeaders None own headers = AreHeaders own headers
 HasHeaders (Some (name, matches)) own headers = AreHeaders matches headers

@@ -4,11 +4,11 @@ use Rattle.clap.specs.Words.{App, Row, Rule, all_of, first_of, new_app, new_rule
 use Rattle.clap.specs.declared.builder.action.ArgAction.TheVariants.{Set, SetTrue, Append}
 use Rattle.command_lines.specs.declared.serve.ServeLine.{ServeLine}
 
--- an option with one value, which has to stand or may be left out
+-- an option with one value, which is required or may be left out
 abbrev pub valued : (required : Bool) → List ℕ → Rule
 valued needed name = record (new_rule name) { long = Some name; value_names = 1; required = needed; action = Some Set }
 
--- an option that has to stand, with one value
+-- a required option with one value
 abbrev pub option : List ℕ → Rule
 option name = valued true name
 
@@ -20,26 +20,26 @@ choice name = valued false name
 abbrev pub flag : List ℕ → Rule
 flag name = record (new_rule name) { long = Some name; action = Some SetTrue }
 
--- words of which at least one has to stand
+-- words of which at least one is required
 abbrev pub words : List ℕ → Rule
 words name = record (new_rule name) { value_names = 1; required = true; action = Some Append }
 
--- a command that tells its version
+-- a command that prints its version
 abbrev pub versioned : App → App
 versioned a = record a { top = record a.top { has_version = true } }
 
--- The command, by whether the words of where, by which epoch and how often it serves have to stand.
+-- The command. `required` says whether the address, the epoch and the number of connections are required.
 unfoldable pub serve_app_of : (required : Bool) → App
 serve_app_of needed = with_rule (with_rule (with_rule (with_rule (with_rule (with_rule (with_rule (with_rule (with_rule (with_rule
     (versioned (new_app (codes "cogserve"))) (valued needed (codes "listen"))) (valued needed (codes "epoch")))
     (valued needed (codes "connections"))) (words (codes "files"))) (choice (codes "at-once"))) (choice (codes "patience")))
     (choice (codes "allow-origin"))) (flag (codes "announce-last"))) (choice (codes "verify"))) (flag (codes "log"))
 
--- the command of the full form, in which they have to stand
+-- the command of the full form, in which they are required
 abbrev pub serve_app : App
 serve_app = serve_app_of true
 
--- a text of a flag says whether it is there; with none it isn't
+-- a flag's text says whether the flag is there; without a text it isn't
 pub record Tells (text : Option (List ℕ)) (flag : Bool) : Type 0 where
   pub none : text ≡ None → flag ≡ false
   pub yes : text ≡ Some (codes "true") → flag ≡ true

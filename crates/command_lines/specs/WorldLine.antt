@@ -5,7 +5,7 @@ use Rattle.clap.specs.declared.builder.action.ArgAction.TheVariants.{Set}
 use Rattle.command_lines.specs.ServeLine.{choice, versioned}
 use Rattle.command_lines.specs.declared.world.WorldLine.{WorldLine}
 
--- a word that has to stand
+-- a required word
 abbrev pub word : List ℕ → Rule
 word name = record (new_rule name) { required = true; action = Some Set }
 

@@ -1,4 +1,4 @@
--- What the end of an answer, and the answer to a check, do and tell.
+-- What the end of an answer, and the answer to a check, do and return.
 use Rattle.std.specs.Prelude.{◌≡◌, ◌⊎◌, ℕ, ℤ, pos, List}
 use Rattle.cog_client.specs.declared.delivered.Current.{Current}
 use Rattle.cog_client.specs.declared.delivered.Current.TheVariants.{Same}
@@ -15,14 +15,14 @@ use Rattle.delgunsai_c.specs.Said.{said_of_current, said_of_delivered}
 
 -- ---- end
 
--- It is the end of whatever answer this is. Of one whose rest is dropped it tells that it is cut, and nothing else changes.
+-- The end of whatever answer this is. If the rest of the answer is dropped, the result is that it is cut, and nothing else changes.
 pub record Ends (what : Delivered) (old new : ClientState) : Type 0 where
   pub delivers : (s : ClientState) (p : List ℕ) → Fed s p old → DeliversKeeping s p what new
   pub dropped : feed_of old ≡ rest_dropped → what ≡ Ignored cut_off
   pub kept : feed_of old ≡ rest_dropped → new ≡ record old { feed = nothing_fed }
   pub ended : feed_of new ≡ nothing_fed
 
--- Memory was wanting behind it.
+-- Memory ran out at this end.
 pub record StopsEnd (old new : ClientState) : Type 0 where
   pub stops : (s : ClientState) (p : List ℕ) → Fed s p old → StopsDelivery s p new
   pub fresh : feed_of old ≡ rest_dropped → ⊥
@@ -39,7 +39,7 @@ EndsOr said left told old new = EndsAs left told old new ⊎ Stopped (StopsEnd o
 
 -- ---- the answer to a check
 
--- The client stays, and what is said is what the answer tells.
+-- The client stays, and the result is what the answer says.
 pub record Reads (answer : List ℕ) (left : Said) (old new : ClientState) : Type 0 where
   pub current : Current
   pub is : IsCurrent (tag_of old) answer current

@@ -11,7 +11,7 @@ pub record IsUnused (k : Held) : Type 0 where
   pub check : k.check ≡ None
   pub exchanges : k.exchanges ≡ 65536
 
--- A query begins, of as many exchanges as before, after whatever happened. What was under way is dropped.
+-- A query begins, whatever happened before, with as many exchanges allowed as before. What was under way is dropped.
 pub record BeginsQuery (h k : Held) : Type 0 where
   pub begins : BeginsAnew h.exchanges h.dialogue k.dialogue
   pub idle : k.dialogue.asked ≡ false

@@ -1,4 +1,4 @@
--- What a call from C does to the client of its handle, and to the caller's room.
+-- What a call from C does to the client of its handle, and to the caller's room. `told` is the number that the call returns.
 use Rattle.std.specs.Prelude.{◌≡◌, ◌⊎◌, ◌+◌, ◌<◌, ◌≤◌, ◌^◌, ℕ, ℤ, pos, List, [], ◌++◌, Option, Some, None, IsSome, length, slice_get}
 use Rattle.cog_client.specs.declared.error.ClientError.{ClientError}
 use Rattle.cog_client.specs.declared.error.UrlError.{UrlError}
@@ -18,7 +18,7 @@ use Rattle.delgunsai_c.specs.declared.failure.Failure.TheVariants.{Memory, NoCli
 use Rattle.delgunsai_c.specs.Failure.{code_of, failure_in, failure_of_field, failure_of_url}
 use Rattle.delgunsai_c.specs.Laid.{Lays}
 
--- There was a client, which did this.
+-- There was a client, and `does` says what became of it.
 pub record Did (does : ClientState → ClientState → Type 0) (old new : Option ClientState) : Type 0 where
   pub before : ClientState
   pub after : ClientState
@@ -26,7 +26,7 @@ pub record Did (does : ClientState → ClientState → Type 0) (old new : Option
   pub is : new ≡ Some after
   pub done : does before after
 
--- There was none, there is none, and the number says so.
+-- There was no client and is none, and the number says so.
 pub record Misses (old new : Option ClientState) (told : ℤ) : Type 0 where
   pub was : old ≡ None
   pub is : new ≡ None
@@ -36,14 +36,14 @@ pub record Misses (old new : Option ClientState) (told : ℤ) : Type 0 where
 abbrev pub Calls : (ClientState → ClientState → Type 0) → Option ClientState → Option ClientState → ℤ → Type 0
 Calls does old new told = Did does old new ⊎ Misses old new told
 
--- ---- what the client does, and what is told
+-- ---- what the client does, and what is returned
 
 -- It is done: the number is 0.
 pub record Done (P : Type 0) (told : ℤ) : Type 0 where
   pub does : P
   pub says : told ≡ pos 0
 
--- There was no memory for it, and this is what that left.
+-- Memory ran out, and this is what is left.
 pub record Stopped (P : Type 0) (told : ℤ) : Type 0 where
   pub does : P
   pub says : told ≡ code_of Memory
@@ -55,7 +55,7 @@ pub record Kept (P : Type 0) (old new : ClientState) : Type 0 where
 
 -- ---- new
 
--- the first that stands against it, or want of memory where nothing else does
+-- the first reason that holds, or memory if no other one does
 pub record IsRefusal (host name : List ℕ) (blocks : ℕ) (failure : Failure) : Type 0 where
   pub error : ClientError
   pub is : failure ≡ failure_in error
@@ -73,13 +73,13 @@ pub record Made (host name : List ℕ) (blocks : ℕ) (new : Option ClientState)
   pub starts : Starts host name blocks after
   pub says : told ≡ pos 0
 
--- A client is made, in the place of the one before, or it is refused and the one before stays.
+-- A client is made, instead of the one before. Or it is refused, and the one before stays.
 abbrev pub News : List ℕ → List ℕ → ℕ → Option ClientState → Option ClientState → ℤ → Type 0
 News host name blocks old new told = Made host name blocks new told ⊎ Refused host name blocks old new told
 
 -- ---- a URL, and fields
 
--- the first that stands against it, or want of memory where nothing else does
+-- the first reason that holds, or memory if no other one does
 pub record IsUrlFailure (authority target : List ℕ) (blocks : ℕ) (failure : Failure) : Type 0 where
   pub error : UrlError
   pub is : failure ≡ failure_of_url error
@@ -97,7 +97,7 @@ pub record MadeByUrl (authority target : List ℕ) (blocks : ℕ) (new : Option 
   pub starts : StartsByUrl authority target [] blocks after
   pub says : told ≡ pos 0
 
--- A client of a URL is made, in the place of the one before, or it is refused and the one before stays.
+-- A client of a URL is made, instead of the one before. Or it is refused, and the one before stays.
 abbrev pub NewsOfUrl : List ℕ → List ℕ → ℕ → Option ClientState → Option ClientState → ℤ → Type 0
 NewsOfUrl authority target blocks old new told =
     MadeByUrl authority target blocks new told ⊎ RefusedUrl authority target blocks old new told
@@ -109,13 +109,13 @@ pub record RefusesField (l : FieldLine) (told : ℤ) (old new : ClientState) : T
   pub says : told ≡ code_of (failure_of_field error)
   pub stays : new ≡ old
 
--- It is added, or it isn't.
+-- The line is added, or it isn't.
 abbrev pub AddsOr : FieldLine → ℤ → ClientState → ClientState → Type 0
 AddsOr l told old new = Done (AddsField l old new) told ⊎ RefusesField l told old new
 
 -- ---- request
 
--- a request, if there is one: there is none where the number is 0. Want of memory is told only where there may be one.
+-- A request, if there is one. If there is none, the number is 0. The number of a lack of memory is returned only if there may be a request.
 abbrev pub Gives : Option (List ℕ) → List ℕ → List ℕ → ℤ → Type 0
 Gives None old new told = (new ≡ old) × (told ≡ pos 0)
 Gives (Some text) old new told = Lays text old new told
@@ -131,7 +131,7 @@ AsksOr room left told old new = Asks room left told old new
 
 -- ---- check
 
--- The client stays, and its check is given, if it has a revision. Want of memory is told only where it has one.
+-- The client stays, and its check is given, if it has a revision. A lack of memory is returned only if it has one.
 pub record Checks (room left : List ℕ) (told : ℤ) (old new : ClientState) : Type 0 where
   pub gives : Gives (check_of old) room left told
   pub stays : new ≡ old
@@ -142,8 +142,8 @@ ChecksOr room left told old new =
 
 -- ---- a later request
 
--- The client stays, and the request is given that stands at this place among those that it makes early, if so many are known. Where
--- they are fewer, nothing in reach is left out of them. Want of memory is told only where it may make some.
+-- The client stays. Of its early requests the one at `index` is given, if one is known there. If none is, nothing in reach is left
+-- out of them. A lack of memory is returned only if the client may make some.
 pub record Foretells (index : ℕ) (room left : List ℕ) (told : ℤ) (old new : ClientState) : Type 0 where
   pub texts : List (List ℕ)
   pub early : AreEarlyRequests old texts
@@ -157,14 +157,14 @@ ForetellsOr index room left told old new =
 
 -- ---- an answer
 
--- These are the next bytes of whatever answer this is, of which no more is kept than a head or a block. Of one whose rest is dropped they
--- change nothing.
+-- These are the next bytes of whatever answer this is. No more of it is kept than a head or a block. If the rest of the answer is dropped,
+-- they change nothing.
 pub record Feeds (piece : List ℕ) (old new : ClientState) : Type 0 where
   pub fed : (s : ClientState) (p : List ℕ) → Fed s p old → Fed s (p ++ piece) new
   pub dropped : feed_of old ≡ rest_dropped → new ≡ old
   pub bounded : IsBounded (feed_of new)
 
--- Memory was wanting for them: the rest of the answer is dropped.
+-- Memory ran out for these bytes: the rest of the answer is dropped.
 pub record StopsFeeding (piece : List ℕ) (old new : ClientState) : Type 0 where
   pub stops : (s : ClientState) (p : List ℕ) → Fed s p old → StopsDelivery s (p ++ piece) new
   pub drops : feed_of new ≡ rest_dropped

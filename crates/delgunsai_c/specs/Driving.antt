@@ -1,4 +1,4 @@
--- What a driver's call from C does to what its handle holds, and what it says in numbers.
+-- What a driver's call from C does to what its handle holds, and which numbers it returns.
 use Rattle.std.specs.Prelude.{◌≡◌, ◌⊎◌, ◌<◌, ◌≤◌, ℕ, ℤ, pos, Bool, if◌then◌else◌, List, [], length, take, Option, None, Some, Result, Ok, Err}
 use Rattle.client_connection.specs.Status.{Status}
 use Rattle.client_dialogue.specs.Checking.{AdvancesCheck, ChecksBy}
@@ -43,7 +43,7 @@ check_numbers_of taken check.More status = plain 8 taken
 
 -- ---- a call
 
--- Something was held, and this came of it; or nothing was, nothing is, and the number says so.
+-- Something was held, and `does` says what became of it. Or nothing was held, nothing is held now, and the number says so.
 abbrev pub Drives : (Held → Held → Type 0) → Option Held → Option Held → ℤ → Type 0
 Drives does old new told = ((h : Held) × (k : Held) × (old ≡ Some h) × (new ≡ Some k) × does h k)
     ⊎ ((old ≡ None) × (new ≡ None) × (told ≡ code_of NoClient))
@@ -52,7 +52,7 @@ Drives does old new told = ((h : Held) × (k : Held) × (old ≡ Some h) × (new
 abbrev pub KeepsRest : Option Held → Option Held → ℤ → Type 0
 KeepsRest old new told = Drives (λ h k. k ≡ record h { client = k.client }) old new told
 
--- The exchanges went on so, and no check is under way. Where a connection is to be made, all bytes are taken: they are of another one.
+-- The exchanges went on so, and no check is under way. If a connection is to be made, all bytes are taken: they are of another one.
 pub record GoesOn (bytes : List ℕ) (n : ℕ) (step : Step) (h k : Held) : Type 0 where
   pub few : n ≤ length bytes
   pub drops : step ≡ Connect → n ≡ length bytes
@@ -64,13 +64,13 @@ pub record GoesOn (bytes : List ℕ) (n : ℕ) (step : Step) (h k : Held) : Type
   pub check : k.check ≡ None
   pub exchanges : k.exchanges ≡ h.exchanges
 
--- after a step of a check nothing of it is left where it is over
+-- what is left of a check after a step: nothing if the check is over
 abbrev pub check_after : CheckStep → Status → Option Status
 check_after (check.Checked current) s = None
 check_after step s = Some s
 
--- The check went on so, and its answer has this status code so far. Nothing else changes. Where a connection is to be made, all bytes are
--- taken.
+-- The check went on so, and this is the status code of its answer so far. Nothing else changes. If a connection is to be made, all bytes
+-- are taken.
 abbrev pub ChecksOn : (bytes : List ℕ) (n : ℕ) (step : CheckStep) (status : ℕ) → Status → Held → Held → Type 0
 ChecksOn bytes n step status s h k = (n ≤ length bytes) × (step ≡ check.Connect → n ≡ length bytes) × AdvancesCheck s n step
     × ((new : Status) × ChecksBy h.client step (take n bytes) s new × IsStatusOf new.head status × (k ≡ record h { check = check_after step new }))
@@ -80,12 +80,12 @@ DrivesBy None bytes out h k = (n : ℕ) × (step : Step) × (out ≡ numbers_of 
 DrivesBy (Some s) bytes out h k =
     (n : ℕ) × (step : CheckStep) × (status : ℕ) × (out ≡ check_numbers_of n step status) × ChecksOn bytes n step status s h k
 
--- Memory was wanting: the history goes on by at most one round that says so, or the check is over.
+-- Memory ran out. The history goes on by at most one round that says so, or the check is over.
 abbrev pub FailsBy : Option Status → Held → Held → Type 0
 FailsBy None h k = Goes Fails [] h.dialogue h.client k.dialogue k.client × (k.check ≡ None) × (k.exchanges ≡ h.exchanges)
 FailsBy (Some s) h k = k ≡ record h { check = None }
 
--- the step is laid into the room, and the number is 0; or the room stays, and the number says that memory was wanting
+-- the step is written into the room, and the number is 0; or the room stays, and the number says that memory ran out
 abbrev pub TellsStep : Result NextStep NoMemory → NextStep → NextStep → ℤ → Type 0
 TellsStep (Ok step) out left told = (left ≡ step) × (told ≡ pos 0)
 TellsStep (Err e) out left told = (left ≡ out) × (told ≡ code_of Memory)

@@ -1,4 +1,4 @@
--- The negative numbers under which C is told why a call gives no answer.
+-- The negative numbers that calls from C return: the reasons why a call gives no answer.
 use Rattle.std.specs.Prelude.{ℤ, negsuc}
 use Rattle.cog_client.specs.declared.error.ClientError as client
 use Rattle.cog_client.specs.declared.error.ClientError.TheVariants as clients

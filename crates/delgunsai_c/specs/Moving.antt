@@ -1,4 +1,4 @@
--- What becomes of what a handle holds where its driver notes something of the connection.
+-- What becomes of what a handle holds when its driver reports an event of the connection.
 use Rattle.std.specs.Prelude.{◌≡◌, ◌⊎◌, ◌≤◌, ◌++◌, ℕ, ℤ, pos, true, false, List, [], length, take, drop, Option, None, Some, IsSome, Result, Ok, Err}
 use Rattle.client_connection.specs.Status.{Status, after_gone, after_open, after_write, is_again, over}
 use Rattle.cog_client.specs.Check.{check_of}
@@ -26,11 +26,11 @@ abbrev pub waits_by : Option Status → List ℕ → List ℕ
 waits_by None waits = waits
 waits_by (Some s) waits = s.waits
 
--- the bytes that are to be written: of the check, if one is under way
+-- the bytes that are to be written: those of the check, if one is under way
 abbrev pub waits_of : Held → List ℕ
 waits_of h = waits_by h.check h.dialogue.status.waits
 
--- as many of the bytes as the room has place for are laid into it, and the number says how many there are
+-- as many of the bytes as fit into the room are written into it, and the number says how many there are
 abbrev pub LaysFront : (text room left : List ℕ) → ℤ → Type 0
 LaysFront text room left told = (told ≡ pos (length text)) × (left ≡ take (length room) text ++ drop (length text) room)
 
@@ -49,19 +49,19 @@ WritesBy (Some s) count h k = k ≡ record h { check = Some (after_write count s
 abbrev pub IsConnected : Held → Type 0
 IsConnected h = h.check ≡ None → (h.dialogue.asked ≡ true) × (h.dialogue.status.is_open ≡ true)
 
--- It is noted; or it doesn't fit: more was written than waited, or nothing is under way that could be written.
+-- The write is noted. Or the call doesn't fit: more was written than waited, or nothing is under way that could be written.
 abbrev pub Writes : ℕ → ℤ → Held → Held → Type 0
 Writes count told h k = ((told ≡ pos 0) × WritesBy h.check count h k)
     ⊎ (IsOutOfOrder told h k × (count ≤ length (waits_of h) → IsConnected h → ⊥))
 
 -- ---- a new connection
 
--- a check has its connection, or there was no memory for it, or it had one
+-- a check has its connection, or memory ran out for it, or it had one already
 abbrev pub OpensCheck : ℤ → Status → Status → Type 0
 OpensCheck told s new = ((told ≡ pos 0) × (new ≡ after_open s)) ⊎ ((told ≡ code_of Memory) × (new ≡ over []))
     ⊎ ((told ≡ code_of Order) × (new ≡ s) × (s.is_open ≡ true))
 
--- a connection is there: a new one, or the one that was there
+-- there is a connection: a new one, or the one that was there
 abbrev pub IsOpened : Talk → Talk → Type 0
 IsOpened t u = (u.status.is_open ≡ true) × (t.status.is_open ≡ false → u ≡ record t { status = after_open t.status })
     × (t.status.is_open ≡ true → u ≡ t)
@@ -72,18 +72,18 @@ ConnectsBy None told h k = (k.client ≡ h.client) × (k.check ≡ None) × (k.e
     ⊎ ((told ≡ code_of Memory) × Goes Fails [] h.dialogue h.client k.dialogue k.client))
 ConnectsBy (Some s) told h k = (new : Status) × OpensCheck told s new × (k ≡ record h { check = Some new })
 
--- It is noted; or no exchange is under way.
+-- The connection is noted, or no exchange is under way.
 abbrev pub Connects : ℤ → Held → Held → Type 0
 Connects told h k = ConnectsBy h.check told h k
     ⊎ (IsOutOfOrder told h k × (h.check ≡ None) × (h.dialogue.asked ≡ false))
 
 -- ---- the end of a connection
 
--- The request is out on a connection that was kept, nothing came of the answer, and the connection isn't late, which is number 3.
+-- The request is out on a connection that was kept, nothing came of the answer, and the connection isn't late (`how` is not 3).
 abbrev pub IsSentAgain : ℕ → Held → Type 0
 IsSentAgain how h = (is_again h.dialogue.status ≡ true) × ¬ (how ≡ 3)
 
--- The exchange went on so without its connection. Its request is sent once more, or the exchange is over.
+-- The exchange went on without its connection. Its request is sent once more, or the exchange is over.
 pub record GoesOnWithout (how : ℕ) (step : Step) (h k : Held) : Type 0 where
   pub goes : Goes (rounds_of step) [] h.dialogue h.client k.dialogue k.client
   pub says : Says step k.dialogue k.client
@@ -92,7 +92,7 @@ pub record GoesOnWithout (how : ℕ) (step : Step) (h k : Held) : Type 0 where
   pub again : step ≡ More → is_again h.dialogue.status ≡ true
   pub kept : IsSentAgain how h → step ≡ More
 
--- No exchange was under way: nothing changes but the connection, which is over.
+-- No exchange was under way. Only the connection changes: it is over.
 pub record EndsIdle (out : NextStep) (h k : Held) : Type 0 where
   pub idle : h.dialogue.asked ≡ false
   pub step : out ≡ plain 8 0
@@ -108,7 +108,7 @@ pub record EndsBusy (how : ℕ) (out : NextStep) (h k : Held) : Type 0 where
   pub check : k.check ≡ None
   pub exchanges : k.exchanges ≡ h.exchanges
 
--- Of a check it is noted. Where no exchange is under way a query may begin anew. Else the exchange went on so.
+-- Of a check the end is noted. If no exchange is under way, a query may begin anew. If one is, it went on so.
 abbrev pub EndsTo : Option Status → ℕ → Result NextStep NoMemory → Held → Held → Type 0
 EndsTo (Some s) how result h k = (result ≡ Ok (plain 8 0)) × (k ≡ record h { check = Some (after_gone s) })
 EndsTo None how (Ok out) h k = EndsIdle out h k ⊎ EndsBusy how out h k
@@ -123,7 +123,7 @@ EndsOr how out left told h k = (result : Result NextStep NoMemory) × EndsBy how
 
 -- ---- queries, and checks
 
--- Any query may begin, and nothing else changes.
+-- A query of any client may begin, with this limit of exchanges. The client stays.
 pub record SetsExchanges (exchanges : ℕ) (told : ℤ) (h k : Held) : Type 0 where
   pub says : told ≡ pos 0
   pub client : k.client ≡ h.client
@@ -131,7 +131,7 @@ pub record SetsExchanges (exchanges : ℕ) (told : ℤ) (h k : Held) : Type 0 wh
   pub most : k.exchanges ≡ exchanges
   pub begins : BeginsAnew exchanges h.dialogue k.dialogue
 
--- A query begins without a connection, after whatever happened. The client stays.
+-- A query begins without a connection, whatever happened before. The client stays.
 pub record BeginsAlone (h k : Held) : Type 0 where
   pub client : k.client ≡ h.client
   pub begins : BeginsAnew h.exchanges h.dialogue k.dialogue
@@ -139,7 +139,7 @@ pub record BeginsAlone (h k : Held) : Type 0 where
   pub over : k.dialogue.status ≡ over []
   pub exchanges : k.exchanges ≡ h.exchanges
 
--- The check is under way, on a connection of its own; or there is none, since the client has no revision, or for want of memory.
+-- A check is under way, on a connection of its own. Or there is none: the client has no revision, or memory ran out.
 abbrev pub AsksSame : ℤ → Held → Held → Type 0
 AsksSame told h k = BeginsAlone h k
     × (((told ≡ code_of Memory) × (k.check ≡ None)) ⊎ ((told ≡ pos 0) × (check_of h.client ≡ None) × (k.check ≡ None))

@@ -1,4 +1,4 @@
--- What a report tells, in numbers and in the caller's room.
+-- What is returned of a report, in numbers and in the caller's room.
 use Rattle.std.specs.Prelude.{◌≡◌, ◌⊎◌, ℕ, ℤ, pos, List, Option, Some, None}
 use Rattle.std.specs.Option.{option_map_or}
 use Rattle.tiff_dir.specs.FaultNumber.{number_of_fault, tag_of_fault}
@@ -25,9 +25,9 @@ told_of (Info i) = kind_told 2
 told_of (Fault fault) =
     record { kind = 3; width = 0; height = 0; samples = 0; bits = 0; fault = number_of_fault fault; field = option_map_or (λ t. t) (tag_of_fault fault) 0 }
 
--- ---- each call, by the report that stands
+-- ---- each call, by the client's report
 
--- The room stays as it was, and this number is told.
+-- The room stays as it was, and `number` is returned.
 abbrev pub Leaves : List ℕ → List ℕ → ℤ → ℤ → Type 0
 Leaves room left told number = (left ≡ room) × (told ≡ number)
 
@@ -35,7 +35,7 @@ abbrev pub TellsReportOf : Option Report → Told → Told → List ℕ → List
 TellsReportOf None out left tag new told = (left ≡ out) × Leaves tag new told (pos 0)
 TellsReportOf (Some r) out left tag new told = (left ≡ told_of r.outcome) × Lays r.tag tag new told
 
--- The numbers of the report and the tag of its file; 0 where none stands. It is true for each book that the client agrees with.
+-- The numbers of the report and the ETag of its file, or 0 if there is none. The report is true for each book that the client agrees with.
 abbrev pub TellsReport : ClientState → Told → Told → List ℕ → List ℕ → ℤ → Type 0
 TellsReport c out left tag new told = Stands c (report_of c) × TellsReportOf (report_of c) out left tag new told
 
@@ -48,11 +48,11 @@ abbrev pub TellsPixelsBy : Option Report → List ℕ → List ℕ → ℤ → T
 TellsPixelsBy None room left told = Leaves room left told (code_of NoReport)
 TellsPixelsBy (Some r) room left told = TellsPixelsOf r.outcome room left told
 
--- The samples of the window that is reported, which is true.
+-- The samples of the window in the report, which is true.
 abbrev pub TellsPixels : ClientState → List ℕ → List ℕ → ℤ → Type 0
 TellsPixels c room left told = Stands c (report_of c) × TellsPixelsBy (report_of c) room left told
 
--- a text that begins with the line of the tag, if there was memory for it
+-- a text that begins with the line of the ETag, if there was memory for it
 abbrev pub TellsText : (tag : List ℕ) → List ℕ → List ℕ → ℤ → Type 0
 TellsText tag room left told =
     ((text : List ℕ) × IsOfTag tag text × Lays text room left told) ⊎ Leaves room left told (code_of Memory)
@@ -66,6 +66,6 @@ abbrev pub TellsInfoBy : Option Report → List ℕ → List ℕ → ℤ → Typ
 TellsInfoBy None room left told = Leaves room left told (code_of NoReport)
 TellsInfoBy (Some r) room left told = TellsInfoOf r.tag r.outcome room left told
 
--- The text of the Info that is reported, which is true.
+-- The text of the Info in the report, which is true.
 abbrev pub TellsInfo : ClientState → List ℕ → List ℕ → ℤ → Type 0
 TellsInfo c room left told = Stands c (report_of c) × TellsInfoBy (report_of c) room left told

@@ -2,7 +2,7 @@
 use Rattle.std.specs.Prelude.{ℕ, ◌+◌, ◌-◌, Bool, nat_lt, List, length, slice_range}
 use Rattle.extents.specs.declared.span.Span.{Span}
 
--- len bytes from first
+-- `len` bytes from `first` on
 pub record Extent : Type 0 where
   pub first : ℕ
   pub len : ℕ
@@ -11,7 +11,7 @@ pub record Extent : Type 0 where
 abbrev pub bytes_in : List ℕ → Extent → List ℕ
 bytes_in f r = slice_range f r.first (r.first + r.len)
 
--- the extent ends past the end of the file
+-- the extent ends after the end of the file
 abbrev pub ends_past : List ℕ → Extent → Bool
 ends_past f r = nat_lt (length f) (r.first + r.len)
 

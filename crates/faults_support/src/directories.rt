@@ -12,13 +12,13 @@ use tiff_dir::FileFault;
 use tiff_dir::limits::{MAX_DIRECTORIES, MAX_ENTRIES};
 use tiff_dir::tags::NEW_SUBFILE_TYPE;
 
-/// The bytes that name the order are there and are neither pair, or the number after them isn't 42.
+/// Returns whether the bytes that name the order are there and are neither pair, or the number after them isn't 42.
 fn is_bad_header(file: &[u8]) -> bool {
     let version = number(file, 2, 2);
     (file.len() >= 2 && order_of(file).is_none()) || (version.is_some() && version != Some(42))
 }
 
-/// The tags of the entries of directory `k` that are in the file, in order.
+/// Returns the tags of the entries of directory `k` that are in the file, in order.
 fn tags(alloc: Global, file: &[u8], k: u32) -> Result<Vec<u64>, AllocError> {
     let mut tags = Vec::new(alloc);
     let (Some(at), Some(entries)) = (directory(file, k), entry_count(file, k)) else {
@@ -32,7 +32,7 @@ fn tags(alloc: Global, file: &[u8], k: u32) -> Result<Vec<u64>, AllocError> {
     Ok(tags)
 }
 
-/// Whether each number is greater than the one before.
+/// Returns whether each number is greater than the one before.
 fn ascends(numbers: &[u64]) -> bool {
     let after = numbers.iter().skip(1);
     numbers.iter().zip(after).all(|(a, b)| a < b)
@@ -66,7 +66,7 @@ fn add_directory_faults(
     add_if(faults, reduced, FileFault::LevelShape)
 }
 
-/// The faults of the header and of the directories, each once: they stand for every query.
+/// Returns the faults of the header and of the directories, each once. They stand for every query.
 pub fn faults_of_directories(alloc: Global, file: &[u8]) -> Result<Vec<FileFault>, AllocError> {
     let mut faults = Vec::new(alloc);
     add_if(&mut faults, is_bad_header(file), FileFault::Header)?;

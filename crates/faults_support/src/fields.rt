@@ -2,7 +2,7 @@
 use reference_support::{field, field_value, has_all_tags, value};
 use std::alloc::{AllocError, Global};
 
-/// How many values the field with the tag counts: none where it is absent, and no answer where that can't be told.
+/// Returns how many values the field with the tag counts: 0 where it is absent, and `None` where the file doesn't say so.
 pub fn count_of(file: &[u8], k: u32, tag: u16) -> Option<u32> {
     match field(file, k, tag) {
         Some(entry) => entry.count,
@@ -11,7 +11,7 @@ pub fn count_of(file: &[u8], k: u32, tag: u16) -> Option<u32> {
     }
 }
 
-/// The values of the field that are in the file, or one of its defaults where it is absent.
+/// Returns the values of the field that are in the file, or one of its defaults where it is absent.
 pub fn values_there(alloc: Global, file: &[u8], k: u32, tag: u16) -> Result<Vec<u64>, AllocError> {
     let mut values = Vec::new(alloc);
     let Some(entry) = field(file, k, tag) else {
@@ -29,12 +29,12 @@ pub fn values_there(alloc: Global, file: &[u8], k: u32, tag: u16) -> Result<Vec<
     Ok(values)
 }
 
-/// Both numbers, where both are there.
+/// Returns both numbers, where both are there.
 pub fn both(a: Option<u64>, b: Option<u64>) -> Option<(u64, u64)> {
     Some((a?, b?))
 }
 
-/// The product, where it has 128 bits.
+/// Returns the product, where it has 128 bits.
 pub fn product(numbers: &[u64]) -> Option<u128> {
     if numbers.contains(&0) {
         return Some(0);
@@ -46,7 +46,7 @@ pub fn product(numbers: &[u64]) -> Option<u128> {
     Some(product)
 }
 
-/// Whether the product of the numbers is greater than this.
+/// Returns whether the product of the numbers is greater than `most`.
 pub fn exceeds(numbers: &[u64], most: u64) -> bool {
     match product(numbers) {
         Some(product) => product > u128::from(most),

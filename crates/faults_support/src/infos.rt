@@ -1,4 +1,4 @@
-//! What is wrong with the fields that georeference the image, and with their keys: for Info alone.
+//! What is wrong with the fields that georeference the image, and with their keys. These faults stand for Info alone.
 use crate::keys::{is_bad_head, is_disorder, is_key_misplaced, key_count};
 use crate::rules::{GEO, add_rule_faults};
 use crate::stands::add_if;
@@ -7,7 +7,7 @@ use std::alloc::AllocError;
 use tiff_dir::FileFault;
 use tiff_dir::limits::MAX_GEO_BYTES;
 
-/// Whether the field's values have more bytes than a geo field may have.
+/// Returns whether the field's values have more bytes than a geo field may have.
 fn is_large(file: &[u8], tag: u16) -> bool {
     match place(file, 0, tag) {
         Some(place) => place.len > MAX_GEO_BYTES,

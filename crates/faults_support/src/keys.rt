@@ -6,17 +6,17 @@ use tiff_dir::tags::{GEO_ASCII_PARAMS, GEO_DOUBLE_PARAMS, GEO_KEY_DIRECTORY};
 /// The fields that a key may point into.
 const KEY_FIELDS: [u16; 2] = [GEO_DOUBLE_PARAMS, GEO_ASCII_PARAMS];
 
-/// Value `i` of the key directory.
+/// Returns value `i` of the key directory.
 fn key_value(file: &[u8], i: u64) -> Option<u64> {
     value(file, 0, GEO_KEY_DIRECTORY, i)
 }
 
-/// How many keys may have numbers in the file, each of which has bytes of its own.
+/// Returns how many keys may have numbers in the file. Each has bytes of its own.
 pub fn key_count(file: &[u8]) -> u64 {
     key_value(file, 3).unwrap_or(0).min(file.len() as u64)
 }
 
-/// Number `j` of key `i`, of those that the head counts: KeyID, TIFFTagLocation, Count, Value_Offset.
+/// Returns number `j` of key `i`, of those that the head counts: KeyID, TIFFTagLocation, Count, Value_Offset.
 fn key_number(file: &[u8], i: u64, j: u64) -> Option<u64> {
     if i >= key_value(file, 3)? {
         return None;
@@ -24,7 +24,7 @@ fn key_number(file: &[u8], i: u64, j: u64) -> Option<u64> {
     key_value(file, i.checked_mul(4)?.checked_add(4)?.checked_add(j)?)
 }
 
-/// The version or the revision isn't 1, or the field hasn't four values and four for each key.
+/// Returns whether the version or the revision isn't 1, or the field hasn't four values and four for each key.
 pub fn is_bad_head(file: &[u8]) -> bool {
     let is_other = |number: Option<u64>| number.is_some() && number != Some(1);
     let count = match field(file, 0, GEO_KEY_DIRECTORY) {
@@ -42,7 +42,7 @@ pub fn is_bad_head(file: &[u8]) -> bool {
     is_other(key_value(file, 0)) || is_other(key_value(file, 1)) || count < 4 || miscounted
 }
 
-/// Key `i + 1` isn't greater than key `i`.
+/// Returns whether key `i + 1` isn't greater than key `i`.
 pub fn is_disorder(file: &[u8], i: u64) -> bool {
     let next = key_number(file, i.saturating_add(1), 0);
     match both(key_number(file, i, 0), next) {
@@ -51,7 +51,7 @@ pub fn is_disorder(file: &[u8], i: u64) -> bool {
     }
 }
 
-/// The items from `first` on end past those of the field with this tag.
+/// Returns whether the items from `first` on end past those of the field with this tag.
 fn has_no_items(file: &[u8], tag: u16, count: u64, first: u64) -> bool {
     match count_of(file, 0, tag) {
         Some(items) => count > 0 && u128::from(items) < u128::from(first) + u128::from(count),
@@ -59,7 +59,7 @@ fn has_no_items(file: &[u8], tag: u16, count: u64, first: u64) -> bool {
     }
 }
 
-/// Whether a key's value is at no location that the profile has, or past its end, as far as its numbers are in the file.
+/// Returns whether a key's value is at no location of the profile, or past its end, as far as its numbers are in the file.
 pub fn is_key_misplaced(file: &[u8], i: u64) -> bool {
     let Some(location) = key_number(file, i, 1) else {
         return false;

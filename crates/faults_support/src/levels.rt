@@ -10,7 +10,7 @@ use tiff_dir::tags::{
     TILE_OFFSETS, TILE_WIDTH,
 };
 
-/// The width and the length of directory `k`.
+/// Returns the width and the length of directory `k`.
 fn sides(file: &[u8], k: u32) -> Option<(u64, u64)> {
     Some((
         value(file, k, IMAGE_WIDTH, 0)?,
@@ -18,12 +18,12 @@ fn sides(file: &[u8], k: u32) -> Option<(u64, u64)> {
     ))
 }
 
-/// The level before directory `k`.
+/// Returns the level before directory `k`.
 fn previous_level(file: &[u8], k: u32) -> Option<u32> {
     (0..k).filter(|before| is_level(file, *before)).last()
 }
 
-/// Whether the level isn't smaller than the one before: in neither side greater, and smaller in one.
+/// Returns whether the level isn't smaller than the one before. A smaller one is in neither side greater, and smaller in one.
 fn is_not_smaller(file: &[u8], k: u32) -> bool {
     let Some(before) = previous_level(file, k) else {
         return false;
@@ -45,7 +45,7 @@ fn has_no_tile_side(file: &[u8], k: u32, tag: u16) -> bool {
     }
 }
 
-/// How many bytes a sample has: a depth other than 8 and 16 bits says nothing.
+/// Returns how many bytes a sample has. A depth other than 8 and 16 bits gives `None`.
 fn sample_size(file: &[u8], k: u32) -> Option<u64> {
     match value(file, k, BITS_PER_SAMPLE, 0)? {
         8 => Some(1),
@@ -54,7 +54,7 @@ fn sample_size(file: &[u8], k: u32) -> Option<u64> {
     }
 }
 
-/// The numbers whose product is how many bytes a row of an unpacked tile has.
+/// Returns the numbers whose product is how many bytes a row of an unpacked tile has.
 pub fn row_factors(file: &[u8], k: u32) -> Option<[u64; 3]> {
     Some([
         value(file, k, TILE_WIDTH, 0)?,
@@ -63,18 +63,18 @@ pub fn row_factors(file: &[u8], k: u32) -> Option<[u64; 3]> {
     ])
 }
 
-/// The numbers whose product is how many bytes an unpacked tile has.
+/// Returns the numbers whose product is how many bytes an unpacked tile has.
 fn tile_factors(file: &[u8], k: u32) -> Option<[u64; 4]> {
     let [tile_width, samples, size] = row_factors(file, k)?;
     Some([tile_width, value(file, k, TILE_LENGTH, 0)?, samples, size])
 }
 
-/// How many bytes an unpacked tile of directory `k` has, where the number has 128 bits.
+/// Returns how many bytes an unpacked tile of directory `k` has, where the number has 128 bits.
 pub fn plain_size(file: &[u8], k: u32) -> Option<u128> {
     product(&tile_factors(file, k)?)
 }
 
-/// How many tiles stand along a side, if tiles have a side.
+/// Returns how many tiles stand along a side, if tiles have a side.
 fn tiles_along(side: u64, tile_side: u64) -> Option<u64> {
     if tile_side == 0 {
         return None;
@@ -82,7 +82,7 @@ fn tiles_along(side: u64, tile_side: u64) -> Option<u64> {
     Some(side.div_ceil(tile_side))
 }
 
-/// How many tiles stand side by side in directory `k`, and how many one below another.
+/// Returns how many tiles stand side by side in directory `k`, and how many one below another.
 fn grid(file: &[u8], k: u32) -> Option<[u64; 2]> {
     let (width, length) = sides(file, k)?;
     let tile_width = value(file, k, TILE_WIDTH, 0)?;
@@ -93,7 +93,7 @@ fn grid(file: &[u8], k: u32) -> Option<[u64; 2]> {
     ])
 }
 
-/// Whether an array of tiles has another count than there are tiles.
+/// Returns whether an array of tiles has another count than there are tiles.
 fn is_no_tile_array(file: &[u8], k: u32, tag: u16) -> bool {
     let (Some(grid), Some(entry)) = (grid(file, k), field(file, k, tag)) else {
         return false;

@@ -1,6 +1,5 @@
-//! The faults of a file, told from the whole file by a plain program: beside the definitions `IsFaultOfDirectories` and
-//! `IsFaulty` of `tiff_dir`, condition by condition, and in no order of checks. Tests compare the product with it; nothing else
-//! stands on it.
+//! The faults of a file, found in the whole file by a plain program. It stands beside the definitions `IsFaultOfDirectories` and `IsFaulty`
+//! of `tiff_dir`, condition by condition, and has no order of checks. Tests compare the product with it, and nothing else stands on it.
 #![tactic(auto)]
 
 mod directories;

@@ -14,11 +14,11 @@ use tiff_dir::tags::{
 #[derive(Clone, Copy)]
 pub enum Count {
     Exactly(u32),
-    /// So many, or another multiple of it but 0.
+    /// This number, or another multiple of it but 0.
     Multiple(u32),
-    /// As many as a pixel has samples.
+    /// As many as the samples of a pixel.
     Samples,
-    /// Any number: the arrays of tiles are looked at by their own rule.
+    /// Any number: the arrays of tiles have a rule of their own.
     Any,
 }
 
@@ -35,7 +35,7 @@ const SHORT_OR_LONG: &[u16] = &[3, 4];
 
 const DOUBLE: &[u16] = &[12];
 
-/// The one field that is looked at in every directory.
+/// The one field that is checked in every directory.
 pub const SUBFILE: Rule = (NEW_SUBFILE_TYPE, LONG, Count::Exactly(1), false);
 
 /// The fields of a level.

@@ -6,7 +6,7 @@ use reference_support::{Extent, needs};
 use std::alloc::{AllocError, Global};
 use tiff_dir::{FileFault, Query};
 
-/// Adds a fault that stands, once.
+/// Adds a fault that stands, unless it is there already.
 pub fn add_if(
     faults: &mut Vec<FileFault>,
     stands: bool,
@@ -18,14 +18,16 @@ pub fn add_if(
     Ok(())
 }
 
-/// Whether one of the ranges ends after the file.
+/// Returns whether one of the ranges ends after the file.
 pub fn any_ends_past(file: &[u8], ranges: &[Extent]) -> bool {
     ranges.iter().any(|range| range.first.saturating_add(range.len) > file.len() as u64)
 }
 
-/// The faults that stand in the file for the query, each once: those of its directories, and those of the window or of Info.
-/// There is no answer where the plain program doesn't read the level of the window (a side of 2^30 pixels or more, or of a
-/// tile 0, or 2^24 or more).
+/// Returns the faults that stand in the file for the query, each once. These are the faults of its directories, and those of the window or
+/// of Info.
+///
+/// Returns `None` where the plain program doesn't read the level of the window. Such a level has a side of 2^30 pixels or more, or tiles
+/// with a side of 0, or of 2^24 or more.
 ///
 /// ```
 /// let found = faults(alloc, &file, Query::Info)?;

@@ -19,7 +19,7 @@ const NAMED: [u16; 6] = [
     SAMPLE_FORMAT,
 ];
 
-/// Whether the profile accepts a value of one of these fields.
+/// Returns whether the profile accepts a value of one of these fields.
 fn is_accepted(tag: u16, value: u64) -> bool {
     match tag {
         BITS_PER_SAMPLE => value == 8 || value == 16,
@@ -32,17 +32,17 @@ fn is_accepted(tag: u16, value: u64) -> bool {
     }
 }
 
-/// One sample goes with BlackIsZero, three with RGB.
+/// Returns whether the samples fit: one sample goes with BlackIsZero, three with RGB.
 fn fits_samples(samples: u64, photometric: u64) -> bool {
     (samples, photometric) == (1, 1) || (samples, photometric) == (3, 2)
 }
 
-/// The samples of a pixel stand together, or there is one.
+/// Returns whether the samples of a pixel stand together, or there is one.
 fn fits_planes(planar: u64, samples: u64) -> bool {
     planar == 1 || (planar, samples) == (2, 1)
 }
 
-/// Whether a value of the field doesn't fit that of another field, or one of its own.
+/// Returns whether a value of the field doesn't fit that of another field, or one of its own.
 fn is_discordant(file: &[u8], k: u32, tag: u16, values: &[u64]) -> bool {
     let samples = value(file, k, SAMPLES_PER_PIXEL, 0);
     match tag {
@@ -65,7 +65,7 @@ fn is_discordant(file: &[u8], k: u32, tag: u16, values: &[u64]) -> bool {
     }
 }
 
-/// Adds the fields of directory `k` that have a value that the profile doesn't accept: Unsupported.
+/// Adds a fault Unsupported for each field of directory `k` with a value that the profile doesn't accept.
 pub fn add_value_faults(
     alloc: Global,
     faults: &mut Vec<FileFault>,

@@ -11,7 +11,7 @@ use tiff_dir::limits::MAX_TILE_BYTES;
 use tiff_dir::tags::{COMPRESSION, TILE_BYTE_COUNTS};
 use tiff_dir::{FileFault, Query};
 
-/// Whether the byte count of tile `t` is 0, too great, or not the size of a plain tile.
+/// Returns whether the byte count of tile `t` is 0, too great, or not the size of a plain tile.
 fn has_wrong_count(file: &[u8], k: u32, t: u64) -> bool {
     let Some(count) = value(file, k, TILE_BYTE_COUNTS, t) else {
         return false;
@@ -24,13 +24,13 @@ fn has_wrong_count(file: &[u8], k: u32, t: u64) -> bool {
     count == 0 || count > MAX_TILE_BYTES || plain && differs
 }
 
-/// How many bytes a row of an unpacked tile has; a row that is longer than memory is one that no packet crosses.
+/// Returns how many bytes a row of an unpacked tile has. No packet crosses a row that is longer than memory.
 fn plain_row(file: &[u8], k: u32) -> Option<usize> {
     let row = product(&row_factors(file, k)?).unwrap_or(u128::MAX);
     Some(usize::try_from(row).unwrap_or(usize::MAX))
 }
 
-/// Whether the bytes of the packed tile `t` of level `n`, directory `k`, are no packets that fill it.
+/// Returns whether the bytes of the packed tile `t` of level `n`, directory `k`, are no packets that fill it.
 fn has_bad_packets(
     alloc: Global,
     file: &[u8],

@@ -10,7 +10,7 @@ mod memory;
 mod replaced;
 mod tries;
 
-/// A window of level 0.
+/// Makes a query of a window of level 0.
 const fn window(x: u32, y: u32, w: u32, h: u32) -> Query {
     let pick = Pick::Level(0);
     Query::Window { x, y, w, h, pick }

@@ -1,12 +1,11 @@
-//! Writes the parts of a TIFF file (TIFF 6.0, section 2). After an error, `out` may have a part of what was to be
-//! appended.
+//! Writes the parts of a TIFF file (TIFF 6.0, section 2). After an error `out` may have a part of the bytes that were to be appended.
 ghost use Rattle.fixtures_support.specs.Tiff.{directory, entry, header, number, type_number};
 ghost use Rattle.std.specs.List.{flat_map};
 ghost use Rattle.std.specs.Prelude.{OnOk, length, ◌++◌, ◌<◌, ◌^◌, ◌≡◌};
 
 use std::alloc::AllocError;
 
-/// The order of the bytes of a number.
+/// The byte order of numbers.
 #[derive(Clone, Copy, Debug, PartialEq, Eq)]
 pub enum Order {
     Little,
@@ -22,7 +21,7 @@ pub enum FieldType {
     Double,
 }
 
-/// The value of a field: one in its entry, or `count` of a type from `first` on.
+/// The value of a field: one value in its entry, or `count` values of type `kind` that stand from position `first` on.
 #[derive(Clone, Copy, Debug, PartialEq, Eq)]
 pub enum Values {
     Short(u16),
@@ -74,7 +73,7 @@ pub fn push_double(out: &mut Vec<u8>, order: Order, bits: u64) -> Result<(), All
     }
 }
 
-/// Appends the header: the order's letters, 42 and where the first directory begins.
+/// Appends the header: the letters of the order, 42, and the offset of the first directory.
 #[tactic(auto, unfolding(crate::specs::Tiff::header, crate::specs::Tiff::letters))]
 pub fn push_header(out: &mut Vec<u8>, order: Order, first: u32) -> Result<(), AllocError>
     ensures { OnOk result (out.new.items ≡ out.old.items ++ header order first) }
@@ -87,7 +86,7 @@ pub fn push_header(out: &mut Vec<u8>, order: Order, first: u32) -> Result<(), Al
     push_long(out, order, first)
 }
 
-/// The number of a type.
+/// Returns the number of a type.
 fn number_of(kind: FieldType) -> u16
     ensures { result ≡ type_number kind }
 {
@@ -134,7 +133,7 @@ fn push_entries(out: &mut Vec<u8>, order: Order, fields: &[Field]) -> Result<(),
     Ok(())
 }
 
-/// Appends a directory: how many entries it has, the entries and where the next directory begins.
+/// Appends a directory: the number of its entries, the entries, and the offset of the next directory.
 #[tactic(auto, unfolding(crate::specs::Tiff::directory))]
 pub fn push_directory(
     out: &mut Vec<u8>,

@@ -1,4 +1,4 @@
-//! The file f4, by its table.
+//! The file f4, from its table of fields.
 ghost use Rattle.fixtures_support.specs.Files.{colour_rows, colour_tiles, colours};
 ghost use Rattle.std.specs.Prelude.{IfOk, OnOk, ◌++◌, ◌≡◌};
 
@@ -6,7 +6,7 @@ use crate::build::{FieldType, Order, push_directory, push_header};
 use crate::files::{outside, push_longs, push_shorts, short};
 use std::alloc::{AllocError, Global};
 
-/// Appends the 16 packed rows of tile `t`: three bytes as they are, then 45 copies of 128.
+/// Appends the 16 packed rows of tile `t`. Each has three bytes as they are, and then 45 copies of 128.
 fn push_colour_tile(out: &mut Vec<u8>, t: u8) -> Result<(), AllocError>
     ensures { OnOk result (out.new.items ≡ out.old.items ++ colour_rows t 16) }
 {
@@ -25,8 +25,8 @@ fn push_colour_tiles(out: &mut Vec<u8>) -> Result<(), AllocError>
     Ok(())
 }
 
-/// 20 by 18 pixels of RGB in four packed tiles of 16 by 16. In row y of tile t the first pixel is y, t and 255, and the
-/// samples of the others are 128.
+/// Returns the file f4: 20 by 18 RGB pixels in four packed tiles of 16 by 16 pixels. In row y of tile t the first pixel is y, t and 255.
+/// The samples of the other pixels are 128.
 #[tactic(auto, unfolding(crate::specs::Files::colours))]
 pub fn f4(alloc: Global) -> Result<Vec<u8>, AllocError>
     ensures { IfOk result (λ v. v.items ≡ colours) }

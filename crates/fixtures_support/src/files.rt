@@ -1,4 +1,4 @@
-//! The files f1, f1m, f2, f2b, f3, f6 and f6m, by their tables.
+//! The files f1, f1m, f2, f2b, f3, f6 and f6m, from their tables of fields.
 ghost use Rattle.fixtures_support.specs.Files.{
   deep_samples,
   deep_tile,
@@ -55,7 +55,7 @@ pub(crate) fn outside(tag: u16, kind: FieldType, count: u32, first: u32) -> Fiel
     }
 }
 
-/// Appends each byte once, in rising order.
+/// Appends each byte once, in ascending order.
 fn push_samples(out: &mut Vec<u8>) -> Result<(), AllocError>
     ensures { OnOk result (out.new.items ≡ out.old.items ++ rising_samples 256) }
 {
@@ -65,7 +65,7 @@ fn push_samples(out: &mut Vec<u8>) -> Result<(), AllocError>
     Ok(())
 }
 
-/// Appends the samples of 16 bits from 32768 on.
+/// Appends the 256 samples of 16 bits from 32768 on.
 fn push_deep_samples(out: &mut Vec<u8>, order: Order) -> Result<(), AllocError>
     ensures { OnOk result (out.new.items ≡ out.old.items ++ deep_samples order 256) }
 {
@@ -75,7 +75,7 @@ fn push_deep_samples(out: &mut Vec<u8>, order: Order) -> Result<(), AllocError>
     Ok(())
 }
 
-/// 16 by 16 samples in one plain tile of 16 by 16, without the tile.
+/// Returns the bytes before the tile of a file of 16 by 16 samples, in one plain tile of 16 by 16.
 #[tactic(auto, unfolding(crate::specs::Files::one_tile_head))]
 fn head_of_one(alloc: Global, order: Order, bits: u16, size: u32) -> Result<Vec<u8>, AllocError>
     ensures { IfOk result (λ v. v.items ≡ one_tile_head order bits size) }
@@ -115,36 +115,36 @@ fn deep_tile(alloc: Global, order: Order) -> Result<Vec<u8>, AllocError>
     Ok(out)
 }
 
-/// 16 by 16 samples in one plain tile of 16 by 16, sample (x, y) being 16 y + x; least significant bytes first.
+/// Returns the file f1: 16 by 16 samples in one plain tile of 16 by 16, with the least significant byte first. Sample (x, y) is 16 y + x.
 pub fn f1(alloc: Global) -> Result<Vec<u8>, AllocError>
     ensures { IfOk result (λ v. v.items ≡ one_tile Order.Little) }
 {
     one_tile(alloc, Order::Little)
 }
 
-/// The file f1 with most significant bytes first.
+/// Returns the file f1 with the most significant byte first.
 pub fn f1m(alloc: Global) -> Result<Vec<u8>, AllocError>
     ensures { IfOk result (λ v. v.items ≡ one_tile Order.Big) }
 {
     one_tile(alloc, Order::Big)
 }
 
-/// The file f1 with samples of 16 bits, sample (x, y) being 32768 + 16 y + x.
+/// Returns the file f1 with samples of 16 bits. Sample (x, y) is 32768 + 16 y + x.
 pub fn f6(alloc: Global) -> Result<Vec<u8>, AllocError>
     ensures { IfOk result (λ v. v.items ≡ deep_tile Order.Little) }
 {
     deep_tile(alloc, Order::Little)
 }
 
-/// The file f6 with most significant bytes first.
+/// Returns the file f6 with the most significant byte first.
 pub fn f6m(alloc: Global) -> Result<Vec<u8>, AllocError>
     ensures { IfOk result (λ v. v.items ≡ deep_tile Order.Big) }
 {
     deep_tile(alloc, Order::Big)
 }
 
-/// An image of these sides, with samples of 8 bits in `tiles` plain square tiles of which the first begins at `first`; all bytes
-/// before the tiles.
+/// Returns the bytes before the tiles of an image of the sides `sides`. Its samples have 8 bits. It has `tiles` plain square tiles, of
+/// which the first begins at `first`.
 #[tactic(auto, unfolding(crate::specs::Files::plain_head))]
 pub(crate) fn head_of_plain(
     alloc: Global,
@@ -179,7 +179,7 @@ pub(crate) fn head_of_plain(
     Ok(out)
 }
 
-/// Appends where `n` tiles of `size` bytes begin, of which the first is at `first`.
+/// Appends the offsets of `n` tiles of `size` bytes. The first one is `first`.
 pub(crate) fn push_offsets(
     out: &mut Vec<u8>,
     first: u32,
@@ -195,7 +195,7 @@ pub(crate) fn push_offsets(
     Ok(())
 }
 
-/// Appends a plain tile of `size` bytes, every one being `value`.
+/// Appends a plain tile of `size` bytes. Each byte is `value`.
 pub(crate) fn push_even_tile(out: &mut Vec<u8>, size: usize, value: u8) -> Result<(), AllocError>
     requires { size < 2 ^ 32 }
     ensures { OnOk result (out.new.items ≡ out.old.items ++ replicate size value) }
@@ -204,7 +204,7 @@ pub(crate) fn push_even_tile(out: &mut Vec<u8>, size: usize, value: u8) -> Resul
     out.resize(len, value)
 }
 
-/// Appends `n` plain tiles of `size` bytes, every byte of tile t being `first` + t.
+/// Appends `n` plain tiles of `size` bytes. Each byte of tile t is `first` + t.
 pub(crate) fn push_rising_tiles(
     out: &mut Vec<u8>,
     size: usize,
@@ -221,7 +221,7 @@ pub(crate) fn push_rising_tiles(
     Ok(())
 }
 
-/// Appends 256 plain tiles, every byte of tile t being 255 - t.
+/// Appends 256 plain tiles. Each byte of tile t is 255 - t.
 fn push_falling_tiles(out: &mut Vec<u8>) -> Result<(), AllocError>
     ensures { OnOk result (out.new.items ≡ out.old.items ++ even_tiles 256 (λ t. 255 - t) 256) }
 {
@@ -231,7 +231,7 @@ fn push_falling_tiles(out: &mut Vec<u8>) -> Result<(), AllocError>
     Ok(())
 }
 
-/// 256 by 256 samples in 256 plain tiles of 16 by 16; every byte of tile t is t.
+/// Returns the file f2: 256 by 256 samples in 256 plain tiles of 16 by 16. Each byte of tile t is t.
 #[tactic(auto, unfolding(crate::specs::Files::many_tiles))]
 pub fn f2(alloc: Global) -> Result<Vec<u8>, AllocError>
     ensures { IfOk result (λ v. v.items ≡ many_tiles (λ t. t)) }
@@ -241,7 +241,7 @@ pub fn f2(alloc: Global) -> Result<Vec<u8>, AllocError>
     Ok(out)
 }
 
-/// The file f2 with every byte of tile t being 255 - t.
+/// Returns the file f2 with other samples: each byte of tile t is 255 - t.
 #[tactic(auto, unfolding(crate::specs::Files::many_tiles))]
 pub fn f2b(alloc: Global) -> Result<Vec<u8>, AllocError>
     ensures { IfOk result (λ v. v.items ≡ many_tiles (λ t. 255 - t)) }
@@ -346,8 +346,8 @@ fn push_packed_tile(out: &mut Vec<u8>) -> Result<(), AllocError>
     Ok(())
 }
 
-/// 32 by 32 samples in four plain tiles of 16 by 16, every byte of tile t being 16 + t, with keys; and 16 by 16
-/// in one packed tile, sample (x, y) being y.
+/// Returns the file f3, of two levels. The first has 32 by 32 samples in four plain tiles of 16 by 16, and keys. Each byte of tile t is
+/// `16 + t`. The second has 16 by 16 samples in one packed tile, and sample (x, y) is y.
 #[tactic(auto, unfolding(crate::specs::Files::two_levels))]
 pub fn f3(alloc: Global) -> Result<Vec<u8>, AllocError>
     ensures { IfOk result (λ v. v.items ≡ two_levels) }

@@ -9,14 +9,14 @@ pub struct Numbers {
 }
 
 impl Numbers {
-    /// A generator that begins with this state.
+    /// Makes a generator that begins with the state `state`.
     pub fn new(state: u64) -> Numbers
         ensures { result.state ≡ state }
     {
         Numbers { state }
     }
 
-    /// The next number below `n`.
+    /// Returns the next number below `n`.
     pub fn below(&mut self, n: usize) -> usize
         requires { 0 < n }
         ensures state { self.new.state ≡ next_state self.old.state }
@@ -30,7 +30,7 @@ impl Numbers {
         (self.state >> 33) as usize % n
     }
 
-    /// The next byte.
+    /// Returns the next byte.
     pub fn byte(&mut self) -> u8
         ensures state { self.new.state ≡ next_state self.old.state }
         ensures number { result ≡ number_below self.new.state 256 }

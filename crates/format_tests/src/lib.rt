@@ -1,4 +1,4 @@
-//! Tests of the calls that make tiles into samples: worked values, random packets beside the plain program, and tiles that are kept.
+//! Tests of the calls that make samples of tiles: worked values, random packets beside the plain program, and kept tiles.
 #![tactic(auto)]
 
 #[cfg(test)]

@@ -10,7 +10,7 @@ mod rectangles;
 mod unpacked;
 mod values;
 
-/// A window of a level, by its number.
+/// Makes a query of a window of level `n`.
 fn of_level(x: u32, y: u32, w: u32, h: u32, n: u32) -> Query {
     Query::Window {
         x,

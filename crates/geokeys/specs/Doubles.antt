@@ -4,7 +4,7 @@ use Rattle.std.specs.List.{range_with_len, slice_range}
 use Rattle.tiff_dir.specs.declared.order.Order.{Order}
 use Rattle.tiff_dir.specs.declared.order.Order.TheVariants.{Little, Big}
 
--- the bytes of an item, the most significant one first
+-- the bytes of an item, with the most significant one first
 abbrev pub big_first : Order → List ℕ → List ℕ
 big_first Little item = reverse item
 big_first Big item = item

@@ -1,4 +1,4 @@
--- What keys say, wherever their values are kept in memory; and that bytes have one list of keys.
+-- What keys say, wherever their values are kept in memory; and that the same bytes have only one list of keys.
 use Rattle.std.specs.Prelude.{◌≡◌, ℕ, List, map}
 use Rattle.tiff_dir.specs.declared.order.Order.{Order}
 use Rattle.tiff_dir.specs.Keys.{KeySource}
@@ -18,14 +18,14 @@ content_of (Short number) = Number number
 content_of (Doubles items) = Items items.items
 content_of (Ascii bytes) = Text bytes.items
 
--- a key's number, and what its value says
+-- the number of a key, and what its value says
 abbrev pub key_content : Key → ℕ × Content
 key_content key = (key.id, content_of key.value)
 
 abbrev pub contents : List Key → List (ℕ × Content)
 contents keys = map key_content keys
 
--- what keys are read from says one minor revision and one list of keys
+-- one source states only one minor revision and one list of keys
 abbrev pub KeysAreUnique : Type 0
 KeysAreUnique = (s : KeySource) (order : Order) (doubles ascii : List ℕ) (a b : Geo) →
     AreKeys s order doubles ascii a → AreKeys s order doubles ascii b →

@@ -7,16 +7,16 @@ use Rattle.http_fields.specs.Tag.{is_weak_tag, is_entity_tag}
 use Rattle.http_fields.specs.Fields.{is_there}
 use Rattle.http_fields.specs.Members.{members}
 
--- the entity tag matches a strong one: strong comparison wants the same text, weak comparison the same opaque tag, which is what
--- stands behind the `W/` of a weak tag
+-- The entity tag `text` matches the strong one `tag`. By the strong comparison both have the same text. By the weak comparison they have
+-- the same opaque tag: what follows the `W/` of a weak tag.
 abbrev pub is_match : Bool → List ℕ → List ℕ → Bool
 is_match strong tag text = bytes_eq (if strong then text else if is_weak_tag text then drop 2 text else text) tag
 
--- a member of a list of entity tags is one, or empty
+-- a member of a list of entity tags is an entity tag, or empty
 abbrev pub may_be_listed : List ℕ → Bool
 may_be_listed member = not (is_there member) || is_entity_tag member
 
--- a value is `*`, or entity tags between commas of which one matches; a comma between quotes belongs to its tag
+-- A value is `*`, or entity tags between commas of which one matches. A comma between quotes belongs to its entity tag.
 abbrev pub any_match : List ℕ → List ℕ → Bool → Bool
 any_match value tag strong =
     let tags = members true value in

@@ -7,7 +7,7 @@ use Rattle.http_fields.specs.declared.request_fields.FieldError.TheVariants.{Nam
 use Rattle.http_fields.specs.Text.{FieldLine}
 use Rattle.http_fields.specs.RequestFields.{has_room, is_field_value, is_reserved}
 
--- the first that holds
+-- the first reason that holds
 abbrev pub field_refusal : List FieldLine → FieldLine → Option FieldError
 field_refusal lines l =
     if not (is_token l.0) then Some Name
@@ -17,7 +17,7 @@ field_refusal lines l =
     else if not (has_room lines l) then Some Bytes
     else None
 
--- The line is refused for this, and for want of memory only where nothing else stands against it.
+-- The line is refused for this reason. The reason is memory only where no other one holds.
 abbrev pub IsFieldRefusal : Option FieldError → FieldError → Type 0
 IsFieldRefusal refusal Memory = refusal ≡ None
 IsFieldRefusal refusal error = refusal ≡ Some error

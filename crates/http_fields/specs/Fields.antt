@@ -9,11 +9,11 @@ use Rattle.http_fields.specs.Text.{FieldLine}
 abbrev pub is_named : List ℕ → FieldLine → Bool
 is_named name field = str_eq_ignore_ascii_case field.0 name
 
--- the values under a name, in order
+-- the values of the fields of this name, in order
 abbrev pub values_of : List ℕ → List FieldLine → List (List ℕ)
 values_of name fields = map (λ field. field.1) (filter (is_named name) fields)
 
--- the element of a list of one
+-- the element of a list that has exactly one
 abbrev pub only : {A : Type 0} → List A → Option A
 only (x ∷ []) = Some x
 only xs = None
@@ -27,6 +27,6 @@ is_there (x ∷ xs) = true
 abbrev pub fields_at : List ℕ → List HeaderSpan → List FieldLine
 fields_at bytes spans = map (header_bytes bytes) spans
 
--- the spans lie in the bytes
+-- the spans lie within the bytes
 abbrev pub AreWithin : List ℕ → List HeaderSpan → Type 0
 AreWithin bytes spans = All (IsHeaderWithin (length bytes)) spans

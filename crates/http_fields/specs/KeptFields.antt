@@ -15,7 +15,7 @@ lines_of fields = map line_of fields
 abbrev pub lines_view : Inside → List FieldLine
 lines_view f = lines_of f.fields.items
 
--- they may be added, and their bytes are counted
+-- the lines may be added, and `size` is the number of their bytes
 pub record IsKept (f : Inside) : Type 0 where
   pub lines : AreExtra (lines_of f.fields.items)
   pub size : f.size ≡ length (flat_map line (lines_of f.fields.items))

@@ -1,4 +1,4 @@
--- Laws of these definitions, each in the contract of a function of `laws`.
+-- Laws of these definitions. Each is in the contract of a function of `laws`.
 use Rattle.std.specs.Prelude.{◌≡◌, ◌<◌, ◌^◌, ◌+◌, ◌↔◌, ℕ, ◌⊎◌, Bool, false, IsTrue, List, [], ◌∷◌, ◌++◌, length, drop, reverse, codes, decimal, Some, map, All}
 use Rattle.std.specs.List.{join_with_byte}
 use Rattle.std.specs.Str.{IsAscii, all_ascii_digits, bytes_eq}
@@ -31,32 +31,32 @@ pub record LimitsAre : Type 0 where
   pub message : MESSAGE_LIMIT ≡ 8192
   pub answers : ANSWERS_LIMIT ≡ 100
 
--- the texts between quotes are the entity tags, and those behind `W/` the weak ones
+-- opaque tags are texts between quotes, and weak tags are opaque tags after `W/`
 pub record TagsAreQuoted : Type 0 where
   pub opaque : (text : List ℕ) → IsTrue (is_opaque_tag text)
       ↔ ((inner : List ℕ) × (text ≡ 34 ∷ (inner ++ 34 ∷ [])) × AllPass is_tag_byte inner)
   pub weak : (text : List ℕ) → IsTrue (is_weak_tag text)
       ↔ ((tag : List ℕ) × (text ≡ codes "W/" ++ tag) × IsTrue (is_opaque_tag tag))
 
--- a tag without `W/` is bytes that are visible or past ASCII, and no weak one
+-- an opaque tag isn't empty, its bytes are visible or past ASCII, and it is no weak tag
 pub record TagsAreVisible : Type 0 where
   pub some : (tag : List ℕ) → IsTrue (is_opaque_tag tag) → 0 < length tag
   pub visible : (tag : List ℕ) → IsTrue (is_opaque_tag tag) → AllPass is_uri_byte tag
   pub strong : (tag : List ℕ) → IsTrue (is_opaque_tag tag) → is_weak_tag tag ≡ false
 
--- a tag alone in If-None-Match matches exactly itself
+-- an ETag that is kept, alone in If-None-Match, matches only itself
 abbrev pub TagsMatchThemselves : Type 0
 TagsMatchThemselves =
     (tag current : List ℕ) → IsTrue (is_kept_tag tag) → any_match tag current false ≡ bytes_eq tag current
 
--- a value matches a tag exactly where it is `*`, or a list of entity tags of which one matches (RFC 9110, sections 13.1.1
+-- a value matches an entity tag exactly where it is `*`, or a list of entity tags of which one matches (RFC 9110, sections 13.1.1
 -- and 13.1.2)
 abbrev pub ListsAreMatched : Type 0
 ListsAreMatched =
     (value tag : List ℕ) (strong : Bool) → IsTrue (any_match value tag strong)
     ↔ ((trim_ows value ≡ codes "*") ⊎ ((elements : List Element) × IsTagList value elements × HasMatch strong tag elements))
 
--- where no quote counts, a list's members are what stands between its commas, without the white space round it (RFC 9110,
+-- where quotes don't count, the members of a list are what stands between its commas, without white space before and after (RFC 9110,
 -- section 5.6.1)
 abbrev pub MembersStandBetweenCommas : Type 0
 MembersStandBetweenCommas =
@@ -64,7 +64,7 @@ MembersStandBetweenCommas =
     → (parts : List (List ℕ)) × (0 < length parts) × All (LacksByte 44) parts × (value ≡ join_with_byte 44 parts)
     × (members false value ≡ map trim_ows parts)
 
--- a number of 64 bits in decimal is digits, which are visible, and is read as itself
+-- a number below 2^64 in decimal is digits, which are visible, and is read as itself
 pub record DecimalsAreRead : Type 0 where
   pub digits : (n : ℕ) → n < 2 ^ 64 → IsTrue (all_ascii_digits (decimal n))
   pub visible : (n : ℕ) → n < 2 ^ 64 → AllPass is_uri_byte (decimal n)
@@ -78,15 +78,15 @@ pub record LinesAreFields : Type 0 where
   pub field : (l : FieldLine) → IsPlain l → IsField (field_of l)
   pub seen : (l : FieldLine) → IsPlain l → name_and_value (field_of l) ≡ l
 
--- bytes that are visible or past ASCII may stand in a value, and where some stand at its front or end, no white space does
+-- Bytes that are visible or past ASCII may stand in a value. If some stand at its front or end, no white space does.
 pub record VisibleValues : Type 0 where
   pub value : (v : List ℕ) → AllPass is_uri_byte v → AllPass is_value_byte v
   pub front : (v after : List ℕ) → AllPass is_uri_byte v → 0 < length v → skip_ows (v ++ after) ≡ v ++ after
   pub back : (before v : List ℕ) → AllPass is_uri_byte v → 0 < length v
       → skip_ows (reverse (before ++ v)) ≡ reverse (before ++ v)
 
--- what a request is written with, beside tags and numbers, may stand in its head: hosts and names of plain clients are as those of a
--- URL, which have visible characters of ASCII alone, and lines that are added are plain
+-- What a request is written with, beside ETags and numbers, may stand in its head. Hosts and names of plain clients are like those of a
+-- URL, which have only visible characters of ASCII. Lines that are added are plain.
 pub record RequestsMayStand : Type 0 where
   pub host : (host : List ℕ) → IsTrue (is_host host) → IsTrue (is_authority_text host)
   pub name : (name : List ℕ) → IsTrue (is_name name) → IsTrue (is_target (47 ∷ name))

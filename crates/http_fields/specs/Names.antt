@@ -1,4 +1,4 @@
--- The names of files and of hosts (own: fewer than RFC 9110, sections 4.2 and 7.2, allow).
+-- The names of files and of hosts. Own: fewer than RFC 9110 allows (sections 4.2 and 7.2).
 use Rattle.std.specs.Prelude.{ℕ, Bool, ◌&&◌, ◌||◌, ◌==◌, nat_lt, nat_le, List, length}
 use Rattle.std.specs.List.{list_all}
 use Rattle.std.specs.Char.{is_ascii_alphanumeric}

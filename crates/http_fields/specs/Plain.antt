@@ -3,7 +3,7 @@ use Rattle.std.specs.Prelude.{◌≡◌, ◌∷◌, reverse}
 use Rattle.httparse.specs.Grammar.{AllPass, IsToken, is_value_byte, skip_ows, crlf, Field}
 use Rattle.http_fields.specs.Text.{FieldLine}
 
--- the field that a line writes: one space stands before its value
+-- the field of a line: one space stands before its value
 abbrev pub field_of : FieldLine → Field
 field_of l = record { name = l.0; raw = 32 ∷ l.1; end = crlf }
 

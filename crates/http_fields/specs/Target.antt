@@ -1,5 +1,5 @@
--- What is asked for by a URL: the target of a request in origin-form (RFC 9112, section 3.2.1), and host and port as its Host field has
--- them (RFC 9110, section 7.2), both by RFC 3986. Their lengths are bounded (own), and userinfo is none (RFC 9110, section 4.2.4).
+-- What a URL asks for, by RFC 3986. It gives the target of a request in origin-form (RFC 9112, section 3.2.1), and the host and port of the
+-- Host field (RFC 9110, section 7.2). Own: their lengths are bounded. There is no userinfo (RFC 9110, section 4.2.4).
 use Rattle.std.specs.Prelude.{◌≡◌, ◌<◌, ◌+◌, ℕ, ◌&&◌, ◌||◌, ◌==◌, ◌⊎◌, Bool, true, false, not, IsTrue, List, [], ◌∷◌, length, take, drop, nat_lt, nat_le, nat_eq, codes}
 use Rattle.std.specs.List.{list_all, list_any, position_or_len, starts_with}
 use Rattle.std.specs.Char.{is_ascii_alphanumeric, is_ascii_digit, is_ascii_hexdigit}
@@ -13,20 +13,20 @@ use Rattle.http_fields.specs.declared.limits.TheConstants.{TARGET_LIMIT, AUTHORI
 abbrev pub is_name_char : ℕ → Bool
 is_name_char b = is_ascii_alphanumeric b || list_any (λ c. c == b) (codes "-._~!$&'()*+,;=%")
 
--- those, `:`, `@`, `/` and `?`: a character of a path or a query (sections 3.3 and 3.4)
+-- one of those, or `:`, `@`, `/` or `?`: a character of a path or a query (sections 3.3 and 3.4)
 abbrev pub is_target_char : ℕ → Bool
 is_target_char b = is_name_char b || list_any (λ c. c == b) (codes ":@/?")
 
--- two hexadecimal digits come first
+-- the text begins with two hexadecimal digits
 abbrev pub begins_with_hex : List ℕ → Bool
 begins_with_hex (h ∷ l ∷ rest) = is_ascii_hexdigit h && is_ascii_hexdigit l
 begins_with_hex rest = false
 
--- `%` stands before two hexadecimal digits (section 2.1)
+-- if the byte is `%`, two hexadecimal digits follow (section 2.1)
 abbrev pub is_whole_before : ℕ → List ℕ → Bool
 is_whole_before b rest = not (b == 37) || begins_with_hex rest
 
--- so each `%` does
+-- so it is with each `%`
 abbrev pub are_escapes_whole : List ℕ → Bool
 are_escapes_whole [] = true
 are_escapes_whole (b ∷ rest) = is_whole_before b rest && are_escapes_whole rest
@@ -50,7 +50,7 @@ is_authority_text text = nat_lt 0 (length text) && nat_le (length text) AUTHORIT
 abbrev pub is_reg_name : List ℕ → Bool
 is_reg_name text = nat_lt 0 (length text) && list_all is_name_char text && are_escapes_whole text
 
--- nothing, or a colon with digits, as few as none (section 3.2.3)
+-- nothing, or a colon and any number of digits, even none (section 3.2.3)
 abbrev pub is_port_part : List ℕ → Bool
 is_port_part [] = true
 is_port_part (b ∷ digits) = b == 58 && list_all is_ascii_digit digits

@@ -1,4 +1,4 @@
--- What the head of an answer announces: of which bytes of which revision its body is, and how many they are
+-- What the head of an answer announces: which bytes of which revision its body is, and how many these are
 -- (RFC 9110, sections 8.6, 8.8.3 and 14.4).
 use Rattle.std.specs.Prelude.{ℕ, ◌+◌, ◌<◌, ◌≤◌, ◌^◌, Bool, true, false, List, length, take, drop, Option, Some, None, Result, Ok, Err}
 use Rattle.http_fields.specs.declared.limits.TheConstants.{HEAD_LIMIT}
@@ -9,7 +9,7 @@ use Rattle.http_range.specs.declared.reading.HeadReading.{HeadReading}
 use Rattle.http_range.specs.declared.reading.HeadReading.TheVariants.{Head as AHead, NotUsed}
 use Rattle.http_range.specs.Piece.{SeenPiece}
 
--- size is how many bytes the head has, length how many its body
+-- `size` is the number of bytes of the head, and `length` that of its body
 pub record Announced : Type 0 where
   pub tag : List ℕ
   pub whole : Bool
@@ -18,27 +18,27 @@ pub record Announced : Type 0 where
   pub length : ℕ
   pub size : ℕ
 
--- the whole file, or the part that the range covers; n is the number of the Content-Length
+-- the whole file, or the part that the range covers; `n` is the value of the Content-Length
 abbrev pub announced_by : List ℕ → Option ContentRange → ℕ → ℕ → Announced
 announced_by tag None n size = record { tag = tag; whole = true; first = 0; complete = n; length = n; size = size }
 announced_by tag (Some range) n size =
     record { tag = tag; whole = false; first = range.first; complete = range.complete; length = n; size = size }
 
--- the body, as far as it is there: what follows the head, at most as many bytes as it announces
+-- the body as far as it came: what follows the head, and at most as many bytes as the head announces
 abbrev pub body_behind : Announced → List ℕ → List ℕ
 body_behind head bytes = take head.length (drop head.size bytes)
 
--- the piece that is there of the answer
+-- the piece of the answer that came
 abbrev pub piece_behind : List ℕ → Announced → SeenPiece
 piece_behind bytes head =
     record { tag = head.tag; whole = head.whole; first = head.first; complete = head.complete; body = body_behind head bytes }
 
--- The body that is announced lies in its file, whose length is a number of 64 bits.
+-- The announced body lies within its file, and the length of the file is below 2^64.
 pub record FitsFile (head : Announced) : Type 0 where
   pub within : head.first + head.length ≤ head.complete
   pub bounded : head.complete < 2 ^ 64
 
--- All bytes of the head are there, 4,096 at most.
+-- All bytes of the head are there, at most 4,096.
 pub record FitsFront (bytes : List ℕ) (head : Announced) : Type 0 where
   pub there : head.size ≤ length bytes
   pub short : head.size ≤ HEAD_LIMIT

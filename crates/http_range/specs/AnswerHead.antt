@@ -1,4 +1,4 @@
--- How an answer's head is kept.
+-- The head of an answer, as the code keeps it.
 use Rattle.std.specs.Prelude.{Result, Ok, Err}
 use Rattle.http_range.specs.declared.answer_head.AnswerHead.{AnswerHead}
 use Rattle.http_range.specs.declared.reading.Why.{Why}

@@ -1,4 +1,4 @@
--- Files that were published, and what a server has of them.
+-- Files that were published, and those that a server offers of them.
 use Rattle.std.specs.Prelude.{◌≡◌, ◌≢◌, ◌≤◌, ◌⊎◌, ℕ, IsTrue, if◌then◌else◌, List, [], ◌∷◌, ◌++◌, length, codes, decimal, Option, Some}
 use Rattle.std.specs.List.{AllByRecursion, AllPairs, find}
 use Rattle.std.specs.Str.{bytes_eq}
@@ -6,34 +6,34 @@ use Rattle.http_fields.specs.Names.{is_name}
 use Rattle.http_fields.specs.Tag.{is_kept_tag}
 use Rattle.http_range.specs.declared.publication.TheConstants.{FILE_LIMIT}
 
--- one revision of a file: the name and the tag under which it was published, and its bytes
+-- one revision of a file: its bytes, and the name and ETag under which it was published
 pub record Publication : Type 0 where
   pub name : List ℕ
   pub tag : List ℕ
   pub file : List ℕ
 
--- name, tag and file lie inside the limits; a file has 1 to 67,108,864 bytes
+-- name, ETag and file keep the limits; a file has 1 to 67,108,864 bytes
 pub record IsPublication (p : Publication) : Type 0 where
   pub named : IsTrue (is_name p.name)
   pub tagged : IsTrue (is_kept_tag p.tag)
   pub some : 1 ≤ length p.file
   pub small : length p.file ≤ FILE_LIMIT
 
--- ---- books: all that was ever published, the newest first
+-- ---- books: all publications so far, the newest first
 
 abbrev pub Book : Type 0
 Book = List Publication
 
--- p is in the book
+-- `p` is in the book
 abbrev pub In : Publication → Book → Type 0
 In p [] = ⊥
 In p (q ∷ book) = (p ≡ q) ⊎ In p book
 
--- whatever is in the book is in the later one
+-- all that is in `book` is in `later`, too
 abbrev pub Includes : Book → Book → Type 0
 Includes later book = (p : Publication) → In p book → In p later
 
--- each publication has another tag than each later one in the book, of whatever name
+-- no two publications in the book have one ETag, whatever their names
 abbrev pub HasDistinctTags : Book → Type 0
 HasDistinctTags book = AllPairs (λ p q. p.tag ≢ q.tag) book
 
@@ -42,7 +42,7 @@ HasDistinctTags book = AllPairs (λ p q. p.tag ≢ q.tag) book
 abbrev pub Catalogue : Type 0
 Catalogue = List Publication
 
--- each publication is lawful
+-- each publication keeps the limits
 abbrev pub IsCatalogue : Catalogue → Type 0
 IsCatalogue catalogue = AllByRecursion IsPublication catalogue
 
@@ -50,17 +50,17 @@ IsCatalogue catalogue = AllByRecursion IsPublication catalogue
 abbrev pub published : List ℕ → Catalogue → Option Publication
 published name catalogue = find (λ p. bytes_eq p.name name) catalogue
 
--- whatever the catalogue has stands in the book
+-- all that the catalogue has is in the book
 abbrev pub Covers : Book → Catalogue → Type 0
 Covers book catalogue = (name : List ℕ) (p : Publication) → published name catalogue ≡ Some p → In p book
 
--- the catalogue after p: it replaces the one of its name, or is added at the end
+-- the catalogue after `p` is published: `p` replaces the publication of its name, or is added at the end
 abbrev pub publish : Publication → Catalogue → Catalogue
 publish p [] = p ∷ []
 publish p (q ∷ catalogue) = if bytes_eq q.name p.name then p ∷ catalogue else q ∷ publish p catalogue
 
--- ---- tags
+-- ---- ETags
 
--- `"E-N"`: the epoch, and the number of the publication in it
+-- `"E-N"`: the epoch, and the number of the publication in this epoch
 unfoldable pub publication_tag : ℕ → ℕ → List ℕ
 publication_tag epoch n = codes "\"" ++ decimal epoch ++ codes "-" ++ decimal n ++ codes "\""

@@ -1,10 +1,10 @@
--- The value of a Content-Range field (RFC 9110, section 14.4), without the forms that have `*`, and with its unit in small letters (own).
+-- The value of a Content-Range field (RFC 9110, section 14.4). Own: no form with `*`, and the unit in small letters.
 use Rattle.std.specs.Prelude.{◌≡◌, ◌<◌, ◌≤◌, ℕ, ◌&&◌, ◌==◌, nat_lt, nat_le, nat_eq, if◌then◌else◌, List, ◌∷◌, ◌++◌, drop, codes, Option, Some, None, ⊤}
 use Rattle.std.specs.List.{before_first, after_first, starts_with}
 use Rattle.http_range.specs.declared.reading.ContentRange.{ContentRange}
 use Rattle.http_fields.specs.Digits.{number_64}
 
--- text is `bytes a-b/l`, each number of one or more digits and 64 bits, with a at most b, and b below l
+-- `text` is `bytes a-b/l` with a ≤ b and b < l; each number has one or more digits and is below 2^64
 pub record IsContentRange (text : List ℕ) (range : ContentRange) : Type 0 where
   pub first : List ℕ
   pub last : List ℕ
@@ -16,20 +16,20 @@ pub record IsContentRange (text : List ℕ) (range : ContentRange) : Type 0 wher
   pub ascending : range.first ≤ range.last
   pub inside : range.last < range.complete
 
--- the positions lie in the content
+-- the positions lie within the content
 abbrev pub IsRange : Option ContentRange → Type 0
 IsRange None = ⊤
 IsRange (Some r) = (r.first ≤ r.last) × (r.last < r.complete)
 
 -- ---- the same, computed
 
--- three numbers, where the first isn't above the second, and the second is below the third
+-- the range of three numbers `a`, `b` and `l`, if a ≤ b and b < l
 abbrev pub range_of_numbers : Option ℕ → Option ℕ → Option ℕ → Option ContentRange
 range_of_numbers (Some a) (Some b) (Some l) =
     if nat_le a b && nat_lt b l then Some (record { first = a; last = b; complete = l }) else None
 range_of_numbers first last complete = None
 
--- the range that the value of a Content-Range field names
+-- the range in the value of a Content-Range field
 unfoldable pub range_of : List ℕ → Option ContentRange
 range_of text =
     let span = drop 6 text in

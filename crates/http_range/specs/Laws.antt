@@ -1,4 +1,4 @@
--- Laws of the definitions, each the contract of a function of `laws`.
+-- Laws of the definitions. Each is the contract of a function in `laws`.
 use Rattle.std.specs.Prelude.{◌≡◌, ◌≢◌, ◌<◌, ◌≤◌, ◌^◌, ◌-◌, ◌↔◌, ◌⊎◌, ℕ, suc, Bool, true, false, IsTrue, IsErr, IfOk, IsSomeAnd, List, [], ◌∷◌, ◌++◌, length, take, drop, Option, Some, None, Result, Ok, Err}
 use Rattle.httparse.specs.Grammar.{RequestHead, IsRequestHead, print_request}
 use Rattle.http_range.specs.Ask.{CanAsk, request_by, request_with, CanCheck, check_text, check_with}
@@ -25,21 +25,21 @@ use Rattle.http_fields.specs.Names.{is_host, is_name}
 use Rattle.http_fields.specs.Text.{FieldLine}
 pub use Rattle.http_fields.specs.Laws.{TagsAreQuoted, LimitsAre}
 
--- the tags of two publications of one server are different
+-- equal ETags of publications have the same epoch and the same number
 abbrev pub TagsTellPublications : Type 0
 TagsTellPublications =
     (e n f m : ℕ) → e < 2 ^ 64 → n < 2 ^ 64 → f < 2 ^ 64 → m < 2 ^ 64
     → publication_tag e n ≡ publication_tag f m → (e ≡ f) × (n ≡ m)
 
--- such a tag is kept
+-- the ETag of a publication keeps the limits of ETags that are kept
 abbrev pub PublicationTagsAreKept : Type 0
 PublicationTagsAreKept = (e n : ℕ) → e < 2 ^ 64 → n < 2 ^ 64 → IsTrue (is_kept_tag (publication_tag e n))
 
--- where tags are distinct, a tag tells one publication
+-- where ETags are distinct, an ETag belongs to one publication
 abbrev pub TagsTellOne : Type 0
 TagsTellOne = (book : Book) → HasDistinctTags book → (p q : Publication) → In p book → In q book → p.tag ≡ q.tag → p ≡ q
 
--- What a server answers may be sent: its tag is kept, its positions lie in the file, and its numbers have 64 bits.
+-- What a server answers may be sent: its ETag is one that is kept, its positions lie within the file, its numbers are below 2^64.
 abbrev pub AnswersAreSent : Type 0
 AnswersAreSent =
     (catalogue : Catalogue) (seen : Option SeenRequest) → IsCatalogue catalogue → IsSent (answer_by catalogue seen).reply
@@ -56,34 +56,34 @@ StreamsAreAnsweredOnce =
     (catalogue : Catalogue) (n : ℕ) (stream : List ℕ) (rs others : List Response)
     → AreAnswers catalogue n stream rs → AreAnswers catalogue n stream others → rs ≡ others
 
--- what a message of a stream is to its server
+-- facts of the first message of a stream
 pub record MessagesStay : Type 0 where
-  -- a message that was found stays the first one when bytes follow
+  -- the first message of a stream stays the first one when bytes follow
   pub found : (stream message more : List ℕ) → IsFirstMessage stream message → IsFirstMessage (stream ++ more) message
-  -- it has 1 to 8,192 bytes, and the rest of the stream stands behind it
+  -- it has 1 to 8,192 bytes, and the stream begins with it
   pub short : (stream message : List ℕ) → IsFirstMessage stream message
       → (1 ≤ length message) × (length message ≤ MESSAGE_LIMIT) × (message ++ drop (length message) stream ≡ stream)
-  -- there is no other
+  -- there is only one first message
   pub one : (stream message other : List ℕ) → IsFirstMessage stream message → IsFirstMessage stream other → message ≡ other
-  -- an unfinished stream is shorter than a message may be, and what was gone through need not be gone through again
+  -- an unfinished stream is shorter than a message may be, and when bytes follow, none of its fronts becomes a message
   pub unfinished : (stream more : List ℕ) → IsUnfinished stream
       → (length stream < MESSAGE_LIMIT) × HasNoMessage (stream ++ more) (length stream)
-  -- nothing is no message
+  -- the empty front is no message
   pub none : (stream : List ℕ) → HasNoMessage stream 0
-  -- an unfinished stream has no message
+  -- an unfinished stream has no first message
   pub apart : (stream message : List ℕ) → IsUnfinished stream → ¬ (IsFirstMessage stream message)
 
--- a message is found by reading backwards from its end
+-- reading backwards from the end finds the messages
 abbrev pub MessagesAreTested : Type 0
 MessagesAreTested = (front : List ℕ) → (is_message front ≡ true) ↔ IsMessage front
 
--- what prints as a request's head of at most 8,192 bytes is the first message of each stream that begins with it
+-- the text of a request's head of at most 8,192 bytes is the first message of each stream that begins with it
 abbrev pub HeadsAreMessages : Type 0
 HeadsAreMessages =
     (h : RequestHead) (more : List ℕ) → IsRequestHead h → length (print_request h) ≤ MESSAGE_LIMIT
     → IsFirstMessage (print_request h ++ more) (print_request h)
 
--- a head that was found in a message is the same when bytes follow
+-- a head that is read of `bytes` is read of them with `more`, too
 abbrev pub HeadsStay : Type 0
 HeadsStay =
     (bytes more : List ℕ) (seen : SeenRequest) → HasRequest bytes (Some seen) → HasRequest (bytes ++ more) (Some seen)
@@ -96,7 +96,7 @@ ClientsAreAnswered =
     → IsAnswer catalogue (request_with true host name extra first last tag ++ more) response
     ↔ (response ≡ response_to_client (published name catalogue) first last tag)
 
--- the same whether the connection is to end or may go on, but that the answer ends it or doesn't
+-- the same whether the connection is to end or may go on: only `close` of the answer differs
 abbrev pub RequestsAreAnswered : Type 0
 RequestsAreAnswered =
     (catalogue : Catalogue) (close : Bool) (host name : List ℕ) (extra : List FieldLine) (more : List ℕ) (first last : ℕ) (tag : Option (List ℕ))
@@ -105,14 +105,14 @@ RequestsAreAnswered =
     → IsAnswer catalogue (request_with close host name extra first last tag ++ more) response
     ↔ (response ≡ ending close (response_to_client (published name catalogue) first last tag))
 
--- what is answered to a client's check, whatever follows it: the tag alone exactly where the file still has it
+-- what is answered to a client's check, whatever follows it: 304 exactly where the file still has the ETag
 abbrev pub ChecksAreAnswered : Type 0
 ChecksAreAnswered =
     (catalogue : Catalogue) (host name : List ℕ) (extra : List FieldLine) (tag more : List ℕ) (response : Response) → CanCheck host name extra tag
     → IsAnswer catalogue (check_with host name extra tag ++ more) response
     ↔ (response ≡ response_to_check (published name catalogue) tag)
 
--- a client's request at the front of a stream has exactly its one answer, whatever follows
+-- a client's request at the front of a stream has exactly this one answer, whatever follows
 abbrev pub ClientsAreServed : Type 0
 ClientsAreServed =
     (catalogue : Catalogue) (host name : List ℕ) (extra : List FieldLine) (more : List ℕ) (first last : ℕ) (tag : Option (List ℕ)) (rs : List Response)
@@ -120,7 +120,7 @@ ClientsAreServed =
     → IsAnswered catalogue (request_with true host name extra first last tag ++ more) rs
     ↔ (rs ≡ response_to_client (published name catalogue) first last tag ∷ [])
 
--- one that lets the connection go on has its answer, and then those to what follows
+-- a request that lets the connection go on has its answer, and then come the answers to what follows
 abbrev pub OpenClientsAreServed : Type 0
 OpenClientsAreServed =
     (catalogue : Catalogue) (n : ℕ) (host name : List ℕ) (extra : List FieldLine) (more : List ℕ) (first last : ℕ) (tag : Option (List ℕ)) (rs : List Response)
@@ -129,15 +129,15 @@ OpenClientsAreServed =
     ↔ ((later : List Response) × (rs ≡ ending false (response_to_client (published name catalogue) first last tag) ∷ later)
     × AreAnswers catalogue n more later)
 
--- a check has its answer, and nothing behind it has any
+-- a check has its answer, and nothing after the check has one
 abbrev pub ChecksAreServed : Type 0
 ChecksAreServed =
     (catalogue : Catalogue) (host name : List ℕ) (extra : List FieldLine) (tag more : List ℕ) (rs : List Response) → CanCheck host name extra tag
     → IsAnswered catalogue (check_with host name extra tag ++ more) rs
     ↔ (rs ≡ response_to_check (published name catalogue) tag ∷ [])
 
--- how many bytes a client's request and check have at most: as they are asked for, and where host and name are those of a plain client
--- and no field is added
+-- How long the texts of a client's request and check are at most. The first two hold of all clients. The others hold of a host and a
+-- name as plain clients have them, without added fields.
 pub record RequestsAreShort : Type 0 where
   pub asked : (close : Bool) (host name : List ℕ) (extra : List FieldLine) (first last : ℕ) (tag : Option (List ℕ))
       → CanAsk host name extra first last tag → length (request_with close host name extra first last tag) ≤ 4096
@@ -148,7 +148,7 @@ pub record RequestsAreShort : Type 0 where
   pub plain_check : (host name tag : List ℕ) → IsTrue (is_host host) → IsTrue (is_name name) → CanCheck host name [] tag
       → length (check_text host name tag) ≤ 1024
 
--- a publication stands under its name, and changes no other name
+-- a publication is what its name has then, and other names keep what they have
 pub record PublishReplaces : Type 0 where
   pub stands : (p : Publication) (catalogue : Catalogue) → published p.name (publish p catalogue) ≡ Some p
   pub others : (p : Publication) (catalogue : Catalogue) (name : List ℕ) → name ≢ p.name
@@ -156,7 +156,7 @@ pub record PublishReplaces : Type 0 where
   pub lawful : (p : Publication) (catalogue : Catalogue) → IsPublication p → IsCatalogue catalogue
       → IsCatalogue (publish p catalogue)
 
--- what stands under a name has that name, and is lawful
+-- what a catalogue has under a name has this name, and keeps the limits
 pub record PublishedIsNamed : Type 0 where
   pub named : (name : List ℕ) (catalogue : Catalogue) (p : Publication) → published name catalogue ≡ Some p → p.name ≡ name
   pub lawful : (name : List ℕ) (catalogue : Catalogue) (p : Publication) → IsCatalogue catalogue
@@ -164,103 +164,102 @@ pub record PublishedIsNamed : Type 0 where
 
 -- honest answers stay honest
 pub record HonestyIsKept : Type 0 where
-  -- an answer of a server whose files stand in the book is honest for the name that it carries, and one without a tag for
-  -- every name
+  -- Let the book have a server's files. Then an answer with an ETag is honest for the name of its file, and one without for every name.
   pub answered : (catalogue : Catalogue) (book : Book) (message : List ℕ) (s : Response) (name : List ℕ) → IsCatalogue catalogue
       → Covers book catalogue → IsAnswer catalogue message s → (s.name ≡ Some name) ⊎ (s.name ≡ None)
       → IsHonest (text_of s) name book
-  -- so is each front of it
+  -- a front of an honest answer is honest
   pub cut : (front text name : List ℕ) (book : Book) → IsFront front text → IsHonest text name book → IsHonest front name book
-  -- and in each later book
+  -- an honest answer is so for each later book
   pub later : (text name : List ℕ) (book later : Book) → Includes later book → IsHonest text name book → IsHonest text name later
-  -- what its catalogue has under the name is a lawful publication
+  -- what the answer's catalogue has under a name keeps the limits
   pub lawful : (text name : List ℕ) (book : Book) (p : Publication) (honest : IsHonest text name book)
       → published name honest.catalogue ≡ Some p → IsPublication p
 
--- no head is read: it isn't whole, or is refused
+-- no head is read: it isn't whole, or it is refused
 abbrev pub HasNone : Result Announced Why → Type 0
 HasNone r = (r ≡ Err Cut) ⊎ (r ≡ Err Head)
 
 -- what is read of the head at the front of an answer stays when bytes follow
 pub record HeadsGrow : Type 0 where
-  -- what isn't *cut* is a reading of the longer bytes, too
+  -- what isn't *cut* is read of the longer bytes, too
   pub stays : (front more : List ℕ) (r : Result Announced Why) → r ≢ Err Cut → ReadsHead front r → ReadsHead (front ++ more) r
-  -- a head is not *cut* where there are 4,096 bytes
+  -- a head of which 4,096 bytes are there is not *cut*
   pub decided : (bytes : List ℕ) (r : Result Announced Why) → HEAD_LIMIT ≤ length bytes → ReadsHead bytes r → r ≢ Err Cut
   -- a whole head is read in one way
   pub one : (bytes : List ℕ) (head : Announced) (r : Result Announced Why) → ReadsHead bytes (Ok head) → ReadsHead bytes r
       → r ≡ Ok head
-  -- all its bytes are there
+  -- all bytes of the head are there
   pub fits : (bytes : List ℕ) (head : Announced) → ReadsHead bytes (Ok head) → FitsFront bytes head
-  -- of the bytes that follow a front, those that the body still lacks are its own
+  -- of the bytes that follow a front, the body gets those that it still lacks
   pub body : (front more : List ℕ) (head : Announced) → ReadsHead front (Ok head)
       → body_behind head (front ++ more)
       ≡ body_behind head front ++ take (head.length - length (body_behind head front)) more
-  -- where no head is read in one way, none is in another
+  -- if no head is read in one way, none is read in another
   pub none : (bytes : List ℕ) (r other : Result Announced Why) → HasNone r → ReadsHead bytes r → ReadsHead bytes other → HasNone other
-  -- nothing has no head
+  -- no bytes have no head
   pub empty : (r : Result Announced Why) → ReadsHead [] r → HasNone r
-  -- a head that is read only when bytes follow ends in those
+  -- a head that is read only after bytes follow ends among those
   pub behind : (front more : List ℕ) (head : Announced) → ((r : Result Announced Why) → ReadsHead front r → HasNone r)
       → ReadsHead (front ++ more) (Ok head) → length front < head.size
 
--- where an answer ends stays when bytes follow
+-- where an answer ends stays so when bytes follow
 pub record FramesGrow : Type 0 where
   -- what isn't *cut* is read of the longer bytes, too
   pub stays : (front more : List ℕ) (r : Result Frame Why) → r ≢ Err Cut → ReadsFrame front r → ReadsFrame (front ++ more) r
-  -- a head is not *cut* where there are 4,096 bytes
+  -- a head of which 4,096 bytes are there is not *cut*
   pub decided : (bytes : List ℕ) (r : Result Frame Why) → HEAD_LIMIT ≤ length bytes → ReadsFrame bytes r → r ≢ Err Cut
   -- a whole head is read in one way
   pub one : (bytes : List ℕ) (frame : Frame) (r : Result Frame Why) → ReadsFrame bytes (Ok frame) → ReadsFrame bytes r → r ≡ Ok frame
-  -- it has some bytes, which are all there, 4,096 at most
+  -- a head has one byte or more, all are there, and they are at most 4,096
   pub some : (bytes : List ℕ) (frame : Frame) → ReadsFrame bytes (Ok frame) → 0 < frame.size
   pub there : (bytes : List ℕ) (frame : Frame) → ReadsFrame bytes (Ok frame) → frame.size ≤ length bytes
   pub short : (bytes : List ℕ) (frame : Frame) → ReadsFrame bytes (Ok frame) → frame.size ≤ HEAD_LIMIT
-  -- it is read of its own bytes
+  -- its own bytes are enough to read it
   pub own : (bytes : List ℕ) (frame : Frame) → ReadsFrame bytes (Ok frame) → ReadsFrame (take frame.size bytes) (Ok frame)
-  -- a head that is read only when bytes follow ends in those
+  -- a head that is read only after bytes follow ends among those
   pub behind : (front more : List ℕ) (frame : Frame) → ((f : Frame) → ¬ (ReadsFrame front (Ok f))) → ReadsFrame (front ++ more) (Ok frame)
       → length front < frame.size
-  -- the length is that of the body that is announced
+  -- the length is that of the announced body
   pub announced : (bytes : List ℕ) (head : Announced) (frame : Frame) → ReadsHead bytes (Ok head) → ReadsFrame bytes (Ok frame)
       → (frame.length ≡ Some head.length) × (frame.size ≡ head.size)
 
 -- what is read of an answer, or of a front of it
 pub record FrontsAreRead : Type 0 where
-  -- the first k bytes of a reply and its body have that reply's head, or are cut in it
+  -- the first `k` bytes of a reply with its body are read as the head of this reply, or as cut within it
   pub head : (reply : Reply) (close : Bool) (body bytes : List ℕ) (k : ℕ) (r : Result Announced Why) → IsSent reply
       → bytes ≡ take k (head_text reply close ++ body) → ReadsHead bytes r → r ≡ front_announced reply close k
-  -- the first k bytes of a reply and its body are read as that reply, or as cut in its head
+  -- the first `k` bytes of a reply with its body are read as this reply, or as cut within its head
   pub reply : (reply : Reply) (close : Bool) (body bytes : List ℕ) (k : ℕ) (r : Result SeenPiece Why) → IsSent reply
       → bytes ≡ take k (head_text reply close ++ body) → ReadsAnswer bytes r → r ≡ front_seen reply close body k
   -- so are those of a server's answer
   pub answer : (catalogue : Catalogue) (message bytes : List ℕ) (s : Response) (k : ℕ) (r : Result SeenPiece Why)
       → IsCatalogue catalogue → IsAnswer catalogue message s → bytes ≡ take k (text_of s) → ReadsAnswer bytes r
       → r ≡ front_seen s.reply s.close s.body k
-  -- an honest answer for a name shows only pieces of the file that its catalogue has under the name
+  -- an honest answer for a name shows only pieces of the file that its catalogue has under this name
   pub honest : (text name : List ℕ) (book : Book) (p : Publication) (honest : IsHonest text name book)
       → published name honest.catalogue ≡ Some p → ShowsOnly (IsPieceOf p) text
-  -- an honest answer for a name shows only pieces of files of that name in the book
+  -- an honest answer for a name shows only pieces of files of this name in the book
   pub book : (text name : List ℕ) (book : Book) → IsHonest text name book → ShowsOnly (IsPieceOfBook name book) text
-  -- an answer without a tag gives no piece
+  -- an answer without an ETag gives no piece
   pub nameless : (text name : List ℕ) (book : Book) (r : Result SeenPiece Why) (honest : IsHonest text name book)
       → honest.response.name ≡ None → ReadsAnswer text r → IsErr r
-  -- and the tag of a piece tells one publication
+  -- and the ETag of a piece belongs to one publication
   pub one : TagsTellOne
 
 -- what a client's check reads of an answer, or of a front of it
 pub record ChecksAreRead : Type 0 where
-  -- the first k bytes of a reply and its body say the reply's tag, or are cut in its head
+  -- of the first `k` bytes of a reply with its body the reply's ETag is read, or they are read as cut within its head
   pub reply : (reply : Reply) (close : Bool) (body bytes : List ℕ) (k : ℕ) (r : Result (List ℕ) Why) → IsSent reply
       → bytes ≡ take k (head_text reply close ++ body) → ReadsCheck bytes r → r ≡ front_tag reply close k
-  -- so do those of a server's answer
+  -- so it is with those of a server's answer
   pub answer : (catalogue : Catalogue) (message bytes : List ℕ) (s : Response) (k : ℕ) (r : Result (List ℕ) Why)
       → IsCatalogue catalogue → IsAnswer catalogue message s → bytes ≡ take k (text_of s) → ReadsCheck bytes r
       → r ≡ front_tag s.reply s.close k
-  -- a tag that is read of an honest answer for a name is that of the file that its catalogue has under the name
+  -- an ETag that is read of an honest answer for a name is that of the file that its catalogue has under this name
   pub honest : (text name : List ℕ) (book : Book) (r : Result (List ℕ) Why) (honest : IsHonest text name book) → ReadsCheck text r
       → IfOk r (λ tag. IsSomeAnd (published name honest.catalogue) (λ p. tag ≡ p.tag))
-  -- an answer without a tag says none
+  -- an answer without an ETag gives none
   pub nameless : (text name : List ℕ) (book : Book) (r : Result (List ℕ) Why) (honest : IsHonest text name book)
       → honest.response.name ≡ None → ReadsCheck text r → IsErr r
 

@@ -1,4 +1,4 @@
--- What an answer says to a client: a piece of a file, or why it is not used.
+-- What a client reads of an answer: a piece of a file, or why the answer isn't used.
 use Rattle.std.specs.Prelude.{ℕ, ◌+◌, ◌<◌, ◌≤◌, ◌^◌, Bool, List, length, Result, Ok, Err}
 use Rattle.http_range.specs.declared.reading.Why.{Why}
 use Rattle.http_range.specs.declared.reading.Why.TheVariants.{Cut, Head, Status, NoTag, WeakTag, TagTooLong, NoRange, NoLength, Coding}
@@ -8,7 +8,7 @@ use Rattle.http_range.specs.declared.reading.Reading.TheVariants.{Piece as APiec
 use Rattle.http_range.specs.declared.check.CheckReading.{CheckReading}
 use Rattle.http_range.specs.declared.check.CheckReading.TheVariants.{Seen, NotUsed as Unused}
 
--- a piece without where it lies in memory
+-- a piece, without where it lies in memory
 pub record SeenPiece : Type 0 where
   pub tag : List ℕ
   pub whole : Bool
@@ -16,7 +16,7 @@ pub record SeenPiece : Type 0 where
   pub complete : ℕ
   pub body : List ℕ
 
--- The piece lies in its file, whose length is a number of 64 bits.
+-- The piece lies within its file, and the length of the file is below 2^64.
 pub record IsInside (p : SeenPiece) : Type 0 where
   pub within : p.first + length p.body ≤ p.complete
   pub bounded : p.complete < 2 ^ 64
@@ -28,12 +28,12 @@ abbrev pub reading_seen : Reading → Result SeenPiece Why
 reading_seen (APiece p) = Ok (piece_seen p)
 reading_seen (NotUsed why) = Err why
 
--- the tag that the answer to a check says
+-- the ETag that is read of the answer to a check
 abbrev pub check_seen : CheckReading → Result (List ℕ) Why
 check_seen (Seen tag) = Ok tag
 check_seen (Unused why) = Err why
 
--- the numbers under which refusals are told
+-- the numbers of the reasons why an answer isn't used
 abbrev pub number_of_why : Why → ℕ
 number_of_why Cut = 1
 number_of_why Head = 2
@@ -45,7 +45,7 @@ number_of_why NoRange = 7
 number_of_why NoLength = 8
 number_of_why Coding = 9
 
--- goes on with what was found, or stops at why it is not used
+-- goes on with what was found, or stops with the reason why it isn't used
 infixl 10 ◌>>=◌
 abbrev pub ◌>>=◌ : {A B : Type 0} → Result A Why → (A → Result B Why) → Result B Why
 (Ok x) >>= f = f x

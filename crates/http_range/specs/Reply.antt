@@ -1,4 +1,4 @@
--- What a server answers, and the head that says it (RFC 9110, sections 8.8.3, 14.4 and 15; RFC 9112, section 4).
+-- What a server answers, and the head of this answer (RFC 9110, sections 8.8.3, 14.4 and 15; RFC 9112, section 4).
 use Rattle.std.specs.Prelude.{ℕ, ◌+◌, ◌-◌, ◌<◌, ◌≤◌, ◌^◌, IsTrue, Bool, List, [], ◌∷◌, ◌++◌, slice_range, codes, decimal, ⊤}
 use Rattle.std.specs.Str.Parse.{digits_value}
 use Rattle.http_range.specs.declared.reply.Reply.{Reply}
@@ -6,7 +6,7 @@ use Rattle.http_range.specs.declared.reply.Reply.TheVariants.{R200, R206, R304, 
 use Rattle.http_fields.specs.Tag.{is_kept_tag}
 use Rattle.http_fields.specs.Text.{FieldLine, head_with, closing}
 
--- a reply that a server sends: its tag is kept, its positions lie in the file, and its numbers have 64 bits
+-- a reply that a server sends: its ETag is one that is kept, its positions lie within the file, and its numbers are below 2^64
 abbrev pub IsSent : Reply → Type 0
 IsSent (R200 tag length) = IsTrue (is_kept_tag tag) × (length < 2 ^ 64)
 IsSent (R206 tag first last length) = IsTrue (is_kept_tag tag) × (first ≤ last) × (last < length) × (length < 2 ^ 64)
@@ -27,7 +27,7 @@ status_line R405 = codes "HTTP/1.1 405 Method Not Allowed"
 status_line R412 = codes "HTTP/1.1 412 Precondition Failed"
 status_line (R416 length) = codes "HTTP/1.1 416 Range Not Satisfiable"
 
--- the number that the three digits of the status line write
+-- the status code: the number of the three digits in the status line
 abbrev pub status_of : Reply → ℕ
 status_of reply = digits_value 10 (slice_range (status_line reply) 9 12)
 
@@ -38,7 +38,7 @@ content_range first last length = codes "bytes " ++ decimal first ++ codes "-" +
 abbrev pub content_length : ℕ → FieldLine
 content_length length = (codes "Content-Length", decimal length)
 
--- the fields that say what the file is, the first of them its tag (section 8.8.3)
+-- the fields that say what the file is; the first of them is the ETag (section 8.8.3)
 abbrev pub file_fields : List ℕ → List FieldLine
 file_fields tag =
     (codes "ETag", tag) ∷ (codes "Accept-Ranges", codes "bytes") ∷ (codes "Content-Type", codes "image/tiff") ∷ []

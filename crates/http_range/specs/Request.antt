@@ -1,4 +1,4 @@
--- How a request's head is kept.
+-- The head of a request, as the code keeps it.
 use Rattle.http_range.specs.declared.request.Request.TheInside.{Inside}
 use Rattle.http_range.specs.Seen.{SeenRequest}
 

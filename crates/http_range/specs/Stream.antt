@@ -6,16 +6,16 @@ use Rattle.http_fields.specs.declared.limits.TheConstants.{MESSAGE_LIMIT, ANSWER
 use Rattle.http_range.specs.Book.{Catalogue}
 use Rattle.http_range.specs.Response.{Response, text_of, IsAnswer}
 
--- ---- lines (section 2.2): LF ends a line, and CR before it belongs to the end
+-- ---- lines (section 2.2): LF ends a line, and CR before it belongs to that end
 
--- any byte of a line but its end
+-- any byte of a line but LF
 abbrev pub is_line_byte : ℕ → Bool
 is_line_byte b = not (b == 10)
 
 abbrev pub IsEmptyLine : List ℕ → Type 0
 IsEmptyLine line = (line ≡ codes "\n") ⊎ (line ≡ codes "\r\n")
 
--- a line that isn't empty: something stands before LF, and it isn't CR alone
+-- a line that isn't empty: before LF there is something other than a single CR
 pub record IsFilledLine (line : List ℕ) : Type 0 where
   pub content : List ℕ
   pub one : AllPass is_line_byte content
@@ -23,11 +23,11 @@ pub record IsFilledLine (line : List ℕ) : Type 0 where
   pub more : content ≢ codes "\r"
   pub ended : line ≡ content ++ codes "\n"
 
--- whole lines, or nothing
+-- the text is empty, or ends with LF
 abbrev pub AreLines : List ℕ → Type 0
 AreLines text = (text ≡ []) ⊎ ((front : List ℕ) × (text ≡ front ++ codes "\n"))
 
--- the text ends with an empty line behind one that isn't empty, as a head does (section 2.1)
+-- the text ends with a line that isn't empty and then an empty line, as a head does (section 2.1)
 pub record EndsHead (text : List ℕ) : Type 0 where
   pub before : List ℕ
   pub line : List ℕ
@@ -43,23 +43,23 @@ pub record EndsHead (text : List ℕ) : Type 0 where
 abbrev pub IsMessage : List ℕ → Type 0
 IsMessage front = (length front ≡ MESSAGE_LIMIT) ⊎ EndsHead front
 
--- no front of at most n bytes is a message
+-- no front of at most `n` bytes is a message
 abbrev pub HasNoMessage : List ℕ → ℕ → Type 0
 HasNoMessage stream n = (k : ℕ) → k ≤ n → ¬ (IsMessage (take k stream))
 
--- the first message of a stream is its shortest front that is one
+-- the first message of a stream: its shortest front that is a message
 pub record IsFirstMessage (stream message : List ℕ) : Type 0 where
   pub front : take (length message) stream ≡ message
   pub is_one : IsMessage message
   pub shortest : (k : ℕ) → k < length message → ¬ (IsMessage (take k stream))
 
--- a stream without one is unfinished
+-- a stream of which no front is a message is unfinished
 abbrev pub IsUnfinished : List ℕ → Type 0
 IsUnfinished stream = HasNoMessage stream (length stream)
 
 -- ---- answers
 
--- the answers to the messages in order, at most n, up to and with the first that closes
+-- the answers to the messages in order, at most `n`, up to the first that closes the connection, with this one
 pub data AreAnswers (catalogue : Catalogue) : ℕ → List ℕ → List Response → Type 0 where
   full : (stream : List ℕ) → AreAnswers catalogue 0 stream []
   unfinished : (n : ℕ) (stream : List ℕ) → IsUnfinished stream → AreAnswers catalogue (suc n) stream []

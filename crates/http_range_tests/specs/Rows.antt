@@ -20,7 +20,7 @@ use Rattle.http_range.specs.Stream.Ending.{Closed, Limit, EndOfInput}
 
 -- ---- parts
 
--- the part that a value names in a content of that length
+-- A row has a value of Range, the length of a content, and the part that the value names in it.
 abbrev pub PartRow : Type 0
 PartRow = List ℕ × ℕ × Resolved
 
@@ -92,7 +92,7 @@ pub record TextRows : Type 0 where
 
 -- ---- what heads announce
 
--- the lines of a part that covers these positions
+-- The lines of a part that covers these positions.
 abbrev pub part_lines : List ℕ → List ℕ → List FieldLine
 part_lines range length =
     (codes "etag", tag_1) ∷ (codes "Content-Range", range) ∷ (codes "Content-Length", length) ∷ []
@@ -100,7 +100,7 @@ part_lines range length =
 abbrev pub part_head : List ℕ → List ℕ → SeenHead
 part_head range length = record { status = 206; minor = 1; fields = part_lines range length; size = 171 }
 
--- the bytes 5 to 7 of a file of 9
+-- The bytes 5 to 7 of a file of 9.
 abbrev pub three_of_nine : Announced
 three_of_nine = record { tag = tag_1; whole = false; first = 5; complete = 9; length = 3; size = 171 }
 
@@ -111,11 +111,11 @@ pub record HeadRows : Type 0 where
   pub whole : announced_of (record { status = 200; minor = 1; fields = part_lines (codes "bytes */9") (codes "4"); size = 80 })
       ≡ Ok (record { tag = tag_1; whole = true; first = 0; complete = 4; length = 4; size = 80 })
   pub status : announced_of (record { status = 304; minor = 1; fields = []; size = 61 }) ≡ Err (Status 304)
-  -- the body is what follows the head: none of it, some, and all; bytes after that are passed over
+  -- The body is what follows the head: none of it, some, or all. Bytes after that are passed over.
   pub none : body_behind three_of_nine (replicate 171 7) ≡ []
   pub some : body_behind three_of_nine (replicate 171 7 ++ 1 ∷ 2 ∷ []) ≡ 1 ∷ 2 ∷ []
   pub all : body_behind three_of_nine (replicate 171 7 ++ 1 ∷ 2 ∷ 3 ∷ 4 ∷ []) ≡ 1 ∷ 2 ∷ 3 ∷ []
-  -- a front of the first answer is cut in its head, or has all of it
+  -- A front of the first answer is cut in its head, or has all of it.
   pub cut : front_announced (R206 tag_1 0 65535 67706) true 170 ≡ Err Cut
   pub there : front_announced (R206 tag_1 0 65535 67706) true 171
       ≡ Ok (record { tag = tag_1; whole = false; first = 0; complete = 67706; length = 65536; size = 171 })
@@ -134,7 +134,7 @@ pub record MessageRows : Type 0 where
 
 -- ---- the server's cases
 
--- a server has these 378 bytes under `a`, with the tag `"1-1"`
+-- A server has these 378 bytes under `a`, with the tag `"1-1"`.
 abbrev pub file_1 : List ℕ
 file_1 = 73 ∷ replicate 376 7 ++ 255 ∷ []
 
@@ -154,7 +154,7 @@ host = (codes "hOST", codes "h")
 abbrev pub range : FieldLine
 range = (codes "range", codes "bytes=0-0")
 
--- a request of HTTP/1.1 with these fields
+-- A request of HTTP/1.1 with these fields.
 abbrev pub asks : List ℕ → List ℕ → List FieldLine → Option SeenRequest
 asks method target fields = Some (record { method = method; target = target; minor = 1; fields = fields })
 
@@ -164,11 +164,11 @@ gets fields = asks (codes "GET") (codes "/a") (host ∷ fields)
 abbrev pub gets_range : List FieldLine → Option SeenRequest
 gets_range fields = gets (range ∷ fields)
 
--- an answer without a tag, that closes or doesn't
+-- An answer without a tag, which closes or doesn't.
 abbrev pub plain : Reply → Bool → Response
 plain reply close = record { reply = reply; close = close; name = None; body = [] }
 
--- an answer that carries the tag
+-- An answer that carries the tag.
 abbrev pub with_tag : Reply → Bool → List ℕ → Response
 with_tag reply close body = record { reply = reply; close = close; name = Some (codes "a"); body = body }
 
@@ -184,7 +184,7 @@ if_none_match value = (codes "If-None-Match", value)
 abbrev pub if_match : List ℕ → FieldLine
 if_match value = (codes "If-Match", value)
 
--- the client has the file already
+-- The client has the file already.
 abbrev pub not_modified : Response
 not_modified = with_tag (R304 tag_1) false []
 
@@ -259,12 +259,12 @@ abbrev pub whole_and_close : Response
 whole_and_close = with_tag (R200 tag_1 378) true file_1
 
 pub record StreamRows : Type 0 where
-  -- two messages and the beginning of a third
+  -- Two messages, and the beginning of a third.
   pub two : IsAnswered shelf (get_a ++ get_a ++ codes "GET") (whole_file ∷ whole_file ∷ [])
   pub two_end : ending_of (whole_file ∷ whole_file ∷ []) ≡ EndOfInput
-  -- what follows an answer that closes isn't answered
+  -- What follows an answer that closes isn't answered.
   pub closing : IsAnswered shelf (get_and_close ++ get_a) (whole_and_close ∷ [])
   pub closing_end : ending_of (whole_and_close ∷ []) ≡ Closed
-  -- nothing
+  -- No message at all.
   pub none : IsAnswered shelf [] []
   pub hundred_end : ending_of (replicate 100 whole_file) ≡ Limit

@@ -3,8 +3,8 @@ ghost use Rattle.http_range_tests.specs.Rows.{AreParts, part_rows, TextRows, Hea
 
 use http_range::law_messages_stay;
 
-/// The definitions give the worked rows: the parts that values of Range name, the texts of heads and what they announce,
-/// what is read of a message, answers, answers to conditions, and the messages of a stream.
+/// The definitions give the worked rows. These are the parts that values of Range name, the texts of heads and what they announce, and what
+/// is read of a message. They are also answers, answers to conditions, and the messages of a stream.
 pub fn rows_hold()
     ensures parts { AreParts part_rows }
     ensures texts { TextRows }

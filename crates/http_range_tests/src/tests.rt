@@ -1,4 +1,4 @@
-//! Tests of what http_range reads and writes.
+//! Tests of what `http_range` reads and writes.
 mod answer_heads;
 mod answers;
 mod conditions;

@@ -16,7 +16,7 @@ finite (Some x) = if float_is_finite x then Some x else None
 abbrev pub coordinate : List ℕ → Option Float
 coordinate word = finite (parse_float binary64 word)
 
--- west isn't greater than east, and south not than north
+-- west isn't greater than east, and south isn't greater than north
 abbrev pub is_rectangle : Bounds → Bool
 is_rectangle b = le b.west b.east && le b.south b.north
 
@@ -40,13 +40,13 @@ abbrev pub IsNoBounds : BoundsWords → Type 0
 IsNoBounds words = (coordinate words.west.now ≡ None) ⊎ (coordinate words.south.now ≡ None) ⊎ (coordinate words.east.now ≡ None)
     ⊎ (coordinate words.north.now ≡ None) ⊎ IsNoRectangle words
 
--- the fault names the word, or memory is wanting
+-- the fault names the word, or memory ran out
 abbrev pub NamesCoordinate : List ℕ → Exit → Type 0
 NamesCoordinate word (NotACoordinate told) = string_bytes told ≡ word
 NamesCoordinate word Memory = ⊤
 NamesCoordinate word fault = ⊥
 
--- the fault names a word that is no finite number, or it is that of no rectangle, or memory is wanting
+-- the fault names a word that is no finite number, or it is that of no rectangle, or memory ran out
 abbrev pub IsOfRectangle : Exit → Type 0
 IsOfRectangle (NotACoordinate told) = coordinate (string_bytes told) ≡ None
 IsOfRectangle NoRectangle = ⊤

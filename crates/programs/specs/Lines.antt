@@ -9,19 +9,19 @@ use Rattle.tiff_dir.specs.declared.fault.FileFault.{FileFault}
 use Rattle.programs.specs.declared.exit.Exit.{Exit}
 use Rattle.programs.specs.declared.exit.Exit.TheVariants.{Explained, Memory, OfFile}
 
--- what a line wants printed of exchanges, by its options
+-- what a line prints of exchanges, by its options
 abbrev pub verbosity : (verbose progress : Bool) → Verbosity
 verbosity true progress = Each
 verbosity false true = Progress
 verbosity false false = Nothing
 
--- The line is this one, but that a connection is kept unless it says otherwise, and that it looks `blocks` ahead unless it says how far.
+-- `made` is this line, but it keeps a connection unless the line says otherwise. It looks `blocks` ahead unless the line says how far.
 pub record IsLineOfUrl (blocks : List ℕ) (line made : ReadLine) : Type 0 where
   pub keep : made.keep ≡ not line.close
   pub ahead : option_copied made.ahead ≡ option_or (option_copied line.ahead) (Some blocks)
   pub rest : made ≡ record line { keep = made.keep; ahead = made.ahead }
 
--- The line is this one, but that it looks `blocks` ahead unless it says how far, and makes `most` requests unless it says how many.
+-- `made` is this line, but it looks `blocks` ahead unless the line says how far. It makes `most` requests unless the line says how many.
 pub record IsLineOfPath (blocks most : List ℕ) (line made : ReadLine) : Type 0 where
   pub ahead : option_copied made.ahead ≡ option_or (option_copied line.ahead) (Some blocks)
   pub requests : option_copied made.requests ≡ option_or (option_copied line.requests) (Some most)
@@ -32,7 +32,7 @@ abbrev pub words_of_url : (is_alone : Bool) → FileUrl → List (List ℕ)
 words_of_url true url = codes "describe" ∷ string_bytes url.server ∷ string_bytes url.target ∷ []
 words_of_url false url = string_bytes url.server ∷ string_bytes url.target ∷ []
 
--- it is this fault of a file with what explains it, or memory is wanting
+-- it is this fault of a file with an explanation, or memory ran out
 abbrev pub IsExplanation : FileFault → Exit → Type 0
 IsExplanation fault (Explained explained) = explained.fault ≡ fault
 IsExplanation fault Memory = ⊤

@@ -9,7 +9,7 @@ abbrev pub IsOriginOrNone : Option (List ℕ) → Type 0
 IsOriginOrNone None = ⊤
 IsOriginOrNone (Some word) = is_origin word ≡ true
 
--- the fault names the word, which is no origin, or memory is wanting
+-- the fault names the word, which is no origin, or memory ran out
 abbrev pub NamesNoOrigin : Option (List ℕ) → Exit → Type 0
 NamesNoOrigin (Some word) (NotAnOrigin told) = (string_bytes told ≡ word) × (is_origin word ≡ false)
 NamesNoOrigin word Memory = ⊤

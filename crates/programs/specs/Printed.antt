@@ -13,9 +13,9 @@ use Rattle.programs.specs.declared.exit.Exit.{Exit}
 use Rattle.programs.specs.declared.exit.Exit.TheVariants.{Script}
 use Rattle.programs.specs.Status.{IsOfWriting}
 
--- It is the text of a log: of a run of the events that the lines of the script are, whose files were found so. Each report in it is true of
--- one file, those of one tag and one query say the same, each request is for what its query needs, and a report comes by its cost. Where
--- memory is wanting for the run it is such a log of the first events.
+-- The text is that of a log: of a run of the events that the script's lines are, with the files that were found. Each report in the log is
+-- true of one file. Reports of one ETag and one query say the same. Each request is for what its query needs, and a report comes by its
+-- cost. If memory ran out for the run, it is such a log of the first events.
 pub record IsPrinted {A E : Type 0} (finds : Finds) (script : List ℕ) (ran : Result A E) (printed : List ℕ) : Type 0 where
   pub events : List Event
   pub entries : List Entry
@@ -29,7 +29,7 @@ pub record IsPrinted {A E : Type 0} (finds : Finds) (script : List ℕ) (ran : R
   pub memory : OnErr ran (IsBeginning events entries clients)
   pub text : printed ≡ text_of_log entries
 
--- No log is printed, since the script isn't read for this fault of it, nothing can be written, or memory is wanting.
+-- No log is printed. The script isn't read, for this fault of it, or nothing can be written, or memory ran out.
 abbrev pub IsUnprinted : Finds → (script : List ℕ) → Exit → Type 0
 IsUnprinted finds script (Script fault) = IsScriptFault finds script fault
 IsUnprinted finds script fault = IsOfWriting fault

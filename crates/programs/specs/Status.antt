@@ -10,14 +10,14 @@ use Rattle.programs.specs.declared.exit.Exit.{Exit}
 use Rattle.programs.specs.declared.exit.Exit.TheVariants.{NotText, NotAProgram, CommandLine, NotANumber, OutOfRange, Negative, NamesNoFile, NotACoordinate, NoRectangle, NoWindow, NoWorld, NotAFile, NotAnOrigin, OneName, NoClock, Script}
 use Rattle.programs.specs.declared.exit.Exit.TheVariants.{RefusedClient, NotAFileUrl, RefusedUrl, NoFieldLine, NotAField, OfFile, Explained, NoReport, NoConnection, NoAnswer, TooFewRequests, NotUsed, CantRead, CantReadBy, Refused, CantListen, CantListenAt, CantAccept, CantWait, CantWrite, CantWriteFile, Memory, ReaderGone}
 
--- 0 where help or the version is asked for, and 2 where the words aren't the program's
+-- 0 if help or the version is asked for, and 2 if the words aren't those of the program
 abbrev pub line_status : ErrorKind → ℕ
 line_status kind.DisplayHelp = 0
 line_status kind.DisplayVersion = 0
 line_status k = 2
 
--- 1 for files, sockets, publications and memory, 2 for the command line and scripts, 3 for a fault of the file that is read, 4
--- where there is no report; to ask for help is no fault
+-- 1 for files, sockets, publications and memory. 2 for the command line and scripts. 3 for a fault of the file that is read. 4 if there
+-- is no report. To ask for help is no fault.
 abbrev pub HasStatus : Exit → ℕ → Type 0
 HasStatus NotText n = n ≡ 2
 HasStatus (NotAProgram word) n = n ≡ 2
@@ -61,16 +61,16 @@ HasStatus ReaderGone n = n ≡ 1
 HasStatus (CantWriteFile path) n = n ≡ 1
 HasStatus Memory n = n ≡ 1
 
--- what a program ends with that has told the fault: its status, or 1 for help that was asked for
+-- the exit status of a program that printed the fault: the fault's status, or 1 for help that was asked for
 abbrev pub EndsWith : Exit → ℕ → Type 0
 EndsWith fault n = HasStatus fault n ⊎ (HasStatus fault 0 × (n ≡ 1))
 
--- which of these it is, by whether its line, or that help, is printed
+-- which of these it is, by whether the line of the fault, or that help, is printed
 abbrev pub EndsBy : Bool → Exit → ℕ → Type 0
 EndsBy true fault n = HasStatus fault n
 EndsBy false fault n = (HasStatus fault n × (n ≢ 0)) ⊎ (HasStatus fault 0 × (n ≡ 1))
 
--- it says that nothing can be written, that nobody reads it any more, or that memory is wanting
+-- the fault is that nothing can be written, that nobody reads any more, or that memory ran out
 abbrev pub IsOfWriting : Exit → Type 0
 IsOfWriting CantWrite = ⊤
 IsOfWriting ReaderGone = ⊤
@@ -86,7 +86,7 @@ exit_of_reading (reading.NoWindow why) = NoWindow why
 exit_of_reading reading.NoWorld = NoWorld
 exit_of_reading reading.Memory = Memory
 
--- The fault of such an error. Where a URL names the file, and no report stands, it is one of status 4.
+-- The fault of such an error. If a URL names the file, and there is no report, it is one of status 4.
 abbrev pub IsExitOf : ReadError → Bool → Exit → Type 0
 IsExitOf reading.NoReport true fault = HasStatus fault 4
 IsExitOf error is_url fault = fault ≡ exit_of_reading error

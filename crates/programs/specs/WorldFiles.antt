@@ -2,7 +2,7 @@
 use Rattle.std.specs.Prelude.{◌≡◌, ◌≢◌, ◌++◌, ℕ, List}
 use Rattle.programs.specs.declared.world_file.TheConstants.{ENDING}
 
--- It is the path without this ending, which isn't that of a world file. An ending may be empty.
+-- `stem` is the path without this ending, which isn't that of a world file. An ending may be empty.
 pub record IsStem (path stem : List ℕ) : Type 0 where
   pub ending : List ℕ
   pub cut : path ≡ stem ++ ending

@@ -10,7 +10,7 @@ use std::net::{Net, SocketAddr};
 use std::rt::{Clock, Files};
 use std::time::Duration;
 
-/// A runtime whose standard output and standard error are kept in memory, or closed. All else is another one's.
+/// A runtime that keeps standard output and standard error in memory, or has them closed. All else is that of another runtime.
 #[derive(Drop)]
 pub struct Capture<'r, R> {
     rt: &'r R,
@@ -28,7 +28,7 @@ fn keep(kept: &RefCell<Vec<u8>>, bytes: &[u8]) -> io::Result<()> {
 }
 
 impl<'r, R: AllocGlobal> Capture<'r, R> {
-    /// One with nothing on it.
+    /// Makes a capture with nothing in it.
     pub fn new(rt: &'r R) -> Self {
         Capture {
             rt,
@@ -38,7 +38,7 @@ impl<'r, R: AllocGlobal> Capture<'r, R> {
         }
     }
 
-    /// One whose standard output is closed.
+    /// Makes a capture whose standard output is closed.
     pub fn closed(rt: &'r R) -> Self {
         Capture {
             is_closed: true,
@@ -46,7 +46,7 @@ impl<'r, R: AllocGlobal> Capture<'r, R> {
         }
     }
 
-    /// What was printed to standard output and to standard error.
+    /// Returns what was printed on standard output and on standard error.
     pub fn into_texts(self) -> (Vec<u8>, Vec<u8>) {
         (self.out.into_inner(), self.err.into_inner())
     }

@@ -1,4 +1,4 @@
-//! Aids of tests of the programs: a runtime that keeps what is printed, and what a command line prints and ends with.
+//! Aids of tests of the programs: a runtime that keeps what is printed, and what a command line prints, with its exit status.
 #![tactic(auto)]
 
 mod capture;

@@ -1,4 +1,4 @@
-//! What a command line prints and ends with.
+//! What a command line prints, and its exit status.
 use crate::capture::Capture;
 use programs::run;
 use std::alloc::{AllocError, Global};
@@ -6,7 +6,7 @@ use std::convert::AsStr;
 use std::net::{Net, TcpListener, TcpStream};
 use std::rt::{Clock, Files};
 
-/// What a command line prints to standard output and to standard error, and its exit status.
+/// What a command line prints on standard output and on standard error, and its exit status.
 #[derive(Debug, Drop)]
 pub struct Told {
     pub out: Vec<u8>,
@@ -15,7 +15,7 @@ pub struct Told {
 }
 
 impl Told {
-    /// Whether exactly this is printed.
+    /// Returns whether exactly this is printed, with this status.
     pub fn is(&self, out: &str, err: &str, status: u8) -> bool {
         self.out.as_slice() == out.as_bytes()
             && self.err.as_slice() == err.as_bytes()
@@ -23,8 +23,8 @@ impl Told {
     }
 }
 
-/// The lines of a log without their times: without each first word that ends in `Z`, and without the `-` of a line that concerns no client.
-/// What isn't text is nothing.
+/// Returns the lines of a log without their times. It leaves out each first word that ends in `Z`, and after it the `-` of a line that
+/// concerns no client. Returns nothing for a log that isn't text.
 pub fn without_times(alloc: Global, log: &[u8]) -> Result<String, AllocError> {
     let mut lines = String::new(alloc);
     for line in str::from_utf8(log).unwrap_or("").lines() {
@@ -38,7 +38,7 @@ pub fn without_times(alloc: Global, log: &[u8]) -> Result<String, AllocError> {
     Ok(lines)
 }
 
-/// The command's own name, and these words.
+/// Returns the command's own name, and these words.
 fn line_of<S: AsStr>(alloc: Global, words: &[S]) -> Result<Vec<String>, AllocError> {
     let mut line = Vec::new(alloc);
     line.push(String::from_str(alloc, "cogtools")?)?;
@@ -48,7 +48,7 @@ fn line_of<S: AsStr>(alloc: Global, words: &[S]) -> Result<Vec<String>, AllocErr
     Ok(line)
 }
 
-/// The words of a line, which spaces part. An empty word is written as two quotes.
+/// Returns the words of a line, which spaces separate. An empty word is written as two quotes.
 pub fn words_of(alloc: Global, line: &str) -> Result<Vec<&str>, AllocError> {
     let mut words = Vec::new(alloc);
     for word in line.split_whitespace() {
@@ -57,7 +57,7 @@ pub fn words_of(alloc: Global, line: &str) -> Result<Vec<&str>, AllocError> {
     Ok(words)
 }
 
-/// What the command prints and ends with over this runtime, for these words, of which the first is its own name.
+/// Runs the command over this runtime, with these words, of which the first is its own name. Returns what it prints, and its status.
 pub fn tell_line<R>(capture: Capture<'_, R>, line: &[String]) -> Told
 where
     R: Files + Clock + AllocGlobal + Net<Listener = TcpListener, Stream = TcpStream>,
@@ -67,7 +67,7 @@ where
     Told { out, err, status }
 }
 
-/// What the command prints and ends with over this runtime, for these words after its own name.
+/// Runs the command over this runtime, with these words after its own name. Returns what it prints, and its status.
 pub fn tell_on<R, S: AsStr>(capture: Capture<'_, R>, words: &[S]) -> Result<Told, AllocError>
 where
     R: Files + Clock + AllocGlobal + Net<Listener = TcpListener, Stream = TcpStream>,
@@ -76,7 +76,7 @@ where
     Ok(tell_line(capture, &line))
 }
 
-/// What the command prints and ends with, for these words after its own name.
+/// Runs the command with these words after its own name. Returns what it prints, and its status.
 pub fn tell<R, S: AsStr>(rt: &R, words: &[S]) -> Result<Told, AllocError>
 where
     R: Files + Clock + AllocGlobal + Net<Listener = TcpListener, Stream = TcpStream>,

@@ -1,4 +1,4 @@
-//! Tests of what the command prints and ends with.
+//! Tests of what the command prints, and of its exit status.
 mod disk;
 mod faults;
 mod line_forms;
@@ -14,10 +14,10 @@ use std::net::{Net, TcpListener, TcpStream};
 use std::process::Abort;
 use std::rt::{Clock, Files};
 
-/// What is printed to standard output and to standard error, and the exit status.
+/// What is printed on standard output and on standard error, and the exit status.
 type Want<'a> = (&'a str, &'a str, u8);
 
-/// Expects what is told of these words; a failure tells their name.
+/// Expects what is printed for these words. A failure prints their name.
 fn expect_told<R, S: AsStr>(
     rt: &R,
     name: &str,
@@ -40,10 +40,10 @@ where
     Ok(())
 }
 
-/// Words, what is told of them on standard error, and the status. Nothing stands on standard output.
+/// A row has words, what is printed for them on standard error, and the status. Nothing is printed on standard output.
 type FaultRow<'a> = (&'a str, &'a str, u8);
 
-/// Expects what is told of the words of each row.
+/// Expects what is printed for the words of each row.
 fn expect_faults<R>(rt: &R, rows: &[FaultRow<'_>]) -> Result<(), AllocError>
 where
     R: Abort + Files + Clock + AllocGlobal + Net<Listener = TcpListener, Stream = TcpStream>,
@@ -54,7 +54,7 @@ where
     Ok(())
 }
 
-/// Expects what is told of the words of a row.
+/// Expects what is printed for the words of a row.
 fn expect_fault<R>(rt: &R, (line, err, status): FaultRow<'_>) -> Result<(), AllocError>
 where
     R: Abort + Files + Clock + AllocGlobal + Net<Listener = TcpListener, Stream = TcpStream>,

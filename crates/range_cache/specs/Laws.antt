@@ -7,37 +7,37 @@ use Rattle.range_cache.specs.Numbers.{has, missing, AreGone, AreKept, IsGap, IsL
 use Rattle.range_cache.specs.Cache.{Block, Blocks, block_at, numbers, stored, stores, Holds}
 use Rattle.range_cache.specs.Piece.{is_brought, is_wanted, whole_blocks, IsPieceOf}
 
--- the same blocks are there
+-- both lists have the same blocks
 abbrev pub HaveSame : List ℕ → List ℕ → Type 0
 HaveSame ns ms = (k : ℕ) → has k ns ≡ has k ms
 
--- a block is there where it is found
+-- a block is there exactly if it is found
 abbrev pub FoundAreThere : Type 0
 FoundAreThere = (k : ℕ) (bs : List Block) → has k (numbers bs) ≡ is_some (block_at k bs)
 
--- where the same blocks are there, the first gap is the same
+-- if the same blocks are there, the first gap is the same
 abbrev pub GapsAreUnique : Type 0
 GapsAreUnique = (ns ms : List ℕ) (n count from to begin end : ℕ) →
     HaveSame ns ms → IsGap ns n count from to → IsGap ms n count begin end → (from ≡ begin) × (to ≡ end)
 
--- where the same blocks are there, as many are missing
+-- if the same blocks are there, as many are missing
 abbrev pub MissingIsSame : Type 0
 MissingIsSame = (ns ms : List ℕ) (n count : ℕ) → HaveSame ns ms → missing ns n count ≡ missing ms n count
 
--- of some blocks no more are missing than there are
+-- no more blocks are missing than there are
 abbrev pub MissingIsFew : Type 0
 MissingIsFew = (ns : List ℕ) (n count : ℕ) → missing ns n count ≤ count
 
--- where one of some blocks isn't there, one is missing at least
+-- if one of some blocks isn't there, at least one is missing
 abbrev pub MissingIsSome : Type 0
 MissingIsSome = (ns : List ℕ) (n count k : ℕ) → n ≤ k → k < n + count → has k ns ≡ false → 1 ≤ missing ns n count
 
--- of some blocks a run that is missing is no longer than what is missing
+-- a run of missing blocks is no longer than the number of blocks that are missing
 abbrev pub RunsAreMissing : Type 0
 RunsAreMissing = (ns : List ℕ) (n count from to : ℕ) → n ≤ from → to ≤ n + count →
     ((k : ℕ) → from ≤ k → k < to → has k ns ≡ false) → to - from ≤ missing ns n count
 
--- where none leaves, no more are missing, and fewer where one of the missing ones came
+-- if no block leaves, no more are missing than before; if a missing one came, fewer are
 abbrev pub MissingIsLess : Type 0
 MissingIsLess = (old new : List ℕ) (n count : ℕ) → AreKept old new n count → missing new n count ≤ missing old n count
 
@@ -45,17 +45,17 @@ abbrev pub MissingIsFewer : Type 0
 MissingIsFewer = (old new : List ℕ) (n count k : ℕ) → AreKept old new n count →
     n ≤ k → k < n + count → has k old ≡ false → has k new ≡ true → missing new n count + 1 ≤ missing old n count
 
--- of some blocks no more are stored than there are
+-- no more blocks are stored than are given
 abbrev pub StoresAreFew : Type 0
 StoresAreFew = (capacity : ℕ) (new bs : List Block) → stores capacity new bs ≤ length new
 
--- where one of them isn't there, one is stored at least
+-- if one of the given blocks isn't there, at least one is stored
 abbrev pub StoresAreSome : Type 0
 StoresAreSome = (capacity : ℕ) (new bs : List Block) (n : ℕ) →
     has n (numbers new) ≡ true → has n (numbers bs) ≡ false → 1 ≤ stores capacity new bs
 
--- where nothing that a piece brings is there, and has room beside those of a range that are there and lead, no block of the range
--- leaves, and all that the piece brings is there
+-- Let no block be there that a piece brings. Let those of a range that are there lead the others, and let the piece's blocks have room
+-- beside them. Then no block of the range leaves, and all that the piece brings is there.
 abbrev pub StoredStay : Type 0
 StoredStay = (c : Blocks) (file_length first : ℕ) (bytes : List ℕ) (wanted : Span) (n count : ℕ) →
     let new = whole_blocks file_length first bytes wanted in
@@ -63,28 +63,28 @@ StoredStay = (c : Blocks) (file_length first : ℕ) (bytes : List ℕ) (wanted :
     IsLed (numbers c.entries) n count →
     Stays (numbers c.entries) (numbers (stored c.capacity new c.entries)) n count (numbers new)
 
--- which blocks a piece brings
+-- each whole block in the piece and in what is wanted is brought
 abbrev pub WholeAreBrought : Type 0
 WholeAreBrought = (file_length first : ℕ) (bytes : List ℕ) (wanted : Span) (n : ℕ) →
     is_brought file_length first (length bytes) wanted n ≡ true → has n (numbers (whole_blocks file_length first bytes wanted)) ≡ true
 
--- and it brings no others
+-- no other block is brought
 abbrev pub OnlyWholeAreBrought : Type 0
 OnlyWholeAreBrought = (file_length first : ℕ) (bytes : List ℕ) (wanted : Span) (n : ℕ) →
     has n (numbers (whole_blocks file_length first bytes wanted)) ≡ true → is_brought file_length first (length bytes) wanted n ≡ true
 
--- what is wanted is no longer than n blocks: a piece brings n at most
+-- a piece brings at most `n` blocks, if what is wanted is no longer than `n` blocks
 abbrev pub WholeAreFew : Type 0
 WholeAreFew = (file_length first : ℕ) (bytes : List ℕ) (wanted : Span) (n : ℕ) →
     wanted.last < wanted.first + n * BLOCK_SIZE → length (whole_blocks file_length first bytes wanted) ≤ n
 
--- a piece of a file brings blocks of that file: blocks of it stay so where they are stored
+-- a piece of a file brings blocks of this file: if the cache holds only blocks of it, this stays so when they are stored
 abbrev pub StoredHolds : Type 0
 StoredHolds = (f : List ℕ) (c : Blocks) (file_length first : ℕ) (bytes : List ℕ) (wanted : Span) →
     file_length ≡ length f → IsPieceOf f first bytes → Holds f c →
     Holds f (record c { entries = stored c.capacity (whole_blocks file_length first bytes wanted) c.entries })
 
--- the same where only the first k of them are stored
+-- the same if only the first `k` of them are stored
 abbrev pub FrontHolds : Type 0
 FrontHolds = (f : List ℕ) (c : Blocks) (file_length first : ℕ) (bytes : List ℕ) (wanted : Span) (k : ℕ) →
     file_length ≡ length f → IsPieceOf f first bytes → Holds f c →
@@ -92,7 +92,7 @@ FrontHolds = (f : List ℕ) (c : Blocks) (file_length first : ℕ) (bytes : List
 
 -- ---- a piece that comes in parts
 
--- no block is cut here: one begins, or the file ends
+-- no block is cut here: the place is where a block begins, or the end of the file
 abbrev pub IsEdge : ℕ → ℕ → Type 0
 IsEdge file_length at = (at ≡ file_length) ⊎ ((n : ℕ) × (at ≡ n * BLOCK_SIZE))
 
@@ -102,37 +102,37 @@ EdgesPart = (file_length first : ℕ) (front rest : List ℕ) (wanted : Span) �
     whole_blocks file_length first (front ++ rest) wanted
     ≡ whole_blocks file_length first front wanted ++ whole_blocks file_length (first + length front) rest wanted
 
--- The places from first up to end lie in block n, and are not all of it.
+-- The bytes from `first` up to `end` lie in block `n`, and are not all of it.
 pub record IsPartOf (file_length first end n : ℕ) : Type 0 where
   pub begins : n * BLOCK_SIZE ≤ first
   pub ends : end ≤ end_of file_length n
   pub lacks : (n * BLOCK_SIZE < first) ⊎ (end < end_of file_length n)
 
--- a part of a block brings none
+-- a part of a block brings no block
 abbrev pub PartsBringNone : Type 0
 PartsBringNone = (file_length first : ℕ) (bytes : List ℕ) (wanted : Span) (n : ℕ) →
     IsPartOf file_length first (first + length bytes) n → whole_blocks file_length first bytes wanted ≡ []
 
--- a piece that has no byte of what is wanted brings none
+-- a piece without a byte of what is wanted brings no block
 abbrev pub BesideBringNone : Type 0
 BesideBringNone = (file_length first : ℕ) (bytes : List ℕ) (wanted : Span) →
     min (first + length bytes) (wanted.last + 1) ≤ max first wanted.first → whole_blocks file_length first bytes wanted ≡ []
 
--- A piece is cut inside block n, which begins in the front and ends in the rest.
+-- A piece is cut within block `n`, which begins in the front and ends in the rest.
 pub record IsCutIn (file_length first : ℕ) (front rest : List ℕ) (n : ℕ) : Type 0 where
   pub begins : first ≤ n * BLOCK_SIZE
   pub reached : n * BLOCK_SIZE ≤ first + length front
   pub cut : first + length front < end_of file_length n
   pub ends : end_of file_length n ≤ first + length front + length rest
 
--- the part of block n in the front, and how many bytes of it stand in the rest
+-- the part of block `n` in the front, and then how many of its bytes are in the rest
 abbrev pub begun : ℕ → List ℕ → ℕ → List ℕ
 begun first front n = drop (n * BLOCK_SIZE - first) front
 
 abbrev pub lacking : ℕ → ℕ → List ℕ → ℕ → ℕ
 lacking file_length first front n = end_of file_length n - (first + length front)
 
--- such a piece brings the blocks of the front, the one that the cut goes through, and those of what follows that
+-- such a piece brings the blocks of the front, the block that the cut goes through, and the blocks of what follows this one
 abbrev pub CutsPart : Type 0
 CutsPart = (file_length first : ℕ) (front rest : List ℕ) (wanted : Span) (n : ℕ) → IsCutIn file_length first front rest n →
     let m = lacking file_length first front n in
@@ -141,7 +141,7 @@ CutsPart = (file_length first : ℕ) (front rest : List ℕ) (wanted : Span) (n 
     ++ (whole_blocks file_length (n * BLOCK_SIZE) (begun first front n ++ take m rest) wanted
     ++ whole_blocks file_length (end_of file_length n) (drop m rest) wanted)
 
--- blocks of two lists are stored one list after the other, and counted so
+-- the blocks of two lists are stored one list after the other, and are counted in the same way
 abbrev pub StoredJoin : Type 0
 StoredJoin = (capacity : ℕ) (new later bs : List Block) →
     stored capacity (new ++ later) bs ≡ stored capacity later (stored capacity new bs)
@@ -150,7 +150,7 @@ abbrev pub StoresJoin : Type 0
 StoresJoin = (capacity : ℕ) (new later bs : List Block) →
     stores capacity (new ++ later) bs ≡ stores capacity new bs + stores capacity later (stored capacity new bs)
 
--- bytes of a block that isn't wanted change nothing
+-- the bytes of a block that isn't wanted change nothing
 abbrev pub UnwantedStay : Type 0
 UnwantedStay = (c : Blocks) (file_length : ℕ) (bytes : List ℕ) (wanted : Span) (n : ℕ) →
     is_wanted c file_length wanted n ≡ false → n * BLOCK_SIZE + length bytes ≤ end_of file_length n →

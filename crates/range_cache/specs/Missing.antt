@@ -6,8 +6,8 @@ use Rattle.extents.specs.Block.{first_block, blocks, end_of}
 use Rattle.range_cache.specs.Numbers.{IsGap}
 use Rattle.range_cache.specs.Cache.{Blocks, numbers}
 
--- Of the blocks that len bytes from first touch, these are the bytes of the first missing one up to the end of the run
--- of missing ones, and no further than the file goes.
+-- Take the blocks that the `len` bytes from `first` on touch. These are the bytes of the first run of missing blocks among them, and they
+-- end with the file at the latest.
 pub record IsFirstGap (c : Blocks) (file_length first len : ℕ) (m : Missing) : Type 0 where
   pub from : ℕ
   pub to : ℕ

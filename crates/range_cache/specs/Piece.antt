@@ -7,11 +7,11 @@ use Rattle.extents.specs.Block.{end_of, block_count, is_whole}
 use Rattle.range_cache.specs.Numbers.{has}
 use Rattle.range_cache.specs.Cache.{Block, Blocks, numbers}
 
--- block n of a piece that begins at first
+-- block `n` of a piece that begins at `first`
 abbrev pub block_in : ℕ → ℕ → List ℕ → ℕ → Block
 block_in file_length first bytes n = (n, slice_range bytes (n * BLOCK_SIZE - first) (end_of file_length n - first))
 
--- the blocks that lie wholly in a piece of so many bytes from first and wholly in what is wanted
+-- block `n` lies wholly within a piece of `len` bytes from `first` on, and wholly within what is wanted
 abbrev pub is_brought : ℕ → ℕ → ℕ → Span → ℕ → Bool
 is_brought file_length first len wanted n =
     is_whole file_length first (first + len) n && is_whole file_length wanted.first (wanted.last + 1) n
@@ -22,10 +22,10 @@ whole_blocks file_length first bytes wanted =
     map (block_in file_length first bytes)
     (filter (is_brought file_length first (length bytes) wanted) (range_with_len 0 (block_count file_length)))
 
--- the bytes are f's from first on
+-- the bytes are those of `f` from `first` on
 abbrev pub IsPieceOf : List ℕ → ℕ → List ℕ → Type 0
 IsPieceOf f first bytes = bytes ≡ slice_range f first (first + length bytes)
 
--- the block lies wholly in what is wanted, and isn't there
+-- block `n` lies wholly within what is wanted, and isn't there
 unfoldable pub is_wanted : Blocks → ℕ → Span → ℕ → Bool
 is_wanted c file_length wanted n = is_whole file_length wanted.first (wanted.last + 1) n && not (has n (numbers c.entries))

@@ -16,17 +16,17 @@ use Rattle.read_command.specs.declared.part.NotGiven.{NotGiven}
 use Rattle.read_command.specs.declared.part.NotGiven.TheVariants.{NoWindow, NoWorld}
 use Rattle.read_command.specs.declared.part.Part.{Part}
 
--- The whole of a level, or one pixel of one that isn't there.
+-- The whole of a level, or one pixel of a level that isn't there.
 abbrev pub whole_window : Option (ℕ × ℕ) → (level : ℕ) → Query
 whole_window sides level = let s = unwrap_or sides (1, 1) in Window 0 0 s.0 s.1 (Level level)
 
--- the window that an area of a level is
+-- the window of an area of a level
 abbrev pub area_window : Info → Area → (level : ℕ) → Result Query NoPixels
 area_window i area.Whole level = Ok (whole_window (slice_get i.sides.items level) level)
 area_window i (area.Bounds b) level = window_covering i b level
 area_window i (area.Pixels x y w h) level = Ok (Window x y w h (Level level))
 
--- a window with its world file, where one is asked for
+-- a window with its world file, if one is asked for
 abbrev pub with_world : (has_world : Bool) → Query → Option WorldFile → Result Given NotGiven
 with_world false window world = Ok (record { window = window; world = None })
 with_world true window None = Err NoWorld

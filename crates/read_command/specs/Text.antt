@@ -38,7 +38,7 @@ use Rattle.read_command.specs.Part.{part_given}
 unfoldable pub sides_of_level : List ℕ → ℕ → Option (ℕ × ℕ)
 sides_of_level f level = level_directory f level >>= sides f
 
--- The query is for the whole of a level. Of one that the file doesn't have it is for some window, which isn't there either.
+-- The query is for the whole of a level. If the file doesn't have this level, it is for some window of it, which isn't there either.
 pub record IsOfWhole (f : List ℕ) (level : ℕ) (q : Query) : Type 0 where
   pub width : ℕ
   pub height : ℕ
@@ -57,7 +57,7 @@ IsOfArea f area.Whole level q = IsOfWhole f level q
 IsOfArea f (area.Bounds b) level q = IsOfBounds f b level q
 IsOfArea f (area.Pixels x y w h) level q = q ≡ Window x y w h (Level level)
 
--- The world file is the window's, by what Info says of this very file, where one is asked for.
+-- The world file is the window's, by what Info says of this very file, and there is one.
 pub record IsWorldFile (f : List ℕ) (q : Query) (world : Option WorldFile) : Type 0 where
   pub said : Said
   pub holds : IsInfoOf f said
@@ -71,30 +71,30 @@ IsWorldOf f true q world = IsWorldFile f q world
 abbrev pub IsOfPart : List ℕ → Part → Query → Option WorldFile → Type 0
 IsOfPart f part q world = IsOfArea f part.area part.level q × IsWorldOf f part.has_world q world
 
--- The query is one for what is asked of the file, and the world file the one that is asked for: of a part of a level the query is also Info,
--- which says which window that is.
+-- The query is one for what is asked of the file, and the world file is the one that is asked for. For a part of a level the query may
+-- also be Info, which says which window the part is.
 abbrev pub IsFor : List ℕ → Asked → Query → Option WorldFile → Type 0
 IsFor f (asked.Query query) q world = (q ≡ query) × (world ≡ None)
 IsFor f (asked.Part part) q world = (q ≡ Info) ⊎ IsOfPart f part q world
 IsFor f (asked.Description form) q world = (q ≡ Info) × (world ≡ None)
 
--- a part of a level is asked for, and so far Info stands, which gives its window
+-- a part of a level is asked for, and the outcome so far is Info, which gives its window
 abbrev pub GivesWindow : Asked → Outcome → Type 0
 GivesWindow (asked.Part part) (outcome.Info i) = is_ok (part_given i part) ≡ true
 GivesWindow a o = ⊥
 
--- a part of a level is asked for, and Info stands, which gives no window for it, or no world file, for this reason
+-- a part of a level is asked for, and the outcome is Info, which gives no window or no world file, for this reason
 abbrev pub GivesNone : Asked → Outcome → NotGiven → Type 0
 GivesNone (asked.Part part) (outcome.Info i) why = part_given i part ≡ Err why
 GivesNone a o why = ⊥
 
--- A description for programs is laid out as JSON is, with the end of a line after it. The first line of one for people names the tag.
+-- A description as JSON is laid out as JSON is, with the end of a line after it. The first line of one in words names the ETag.
 abbrev pub IsInForm : Form → (tag text : List ℕ) → Type 0
 IsInForm form tag text = (form ≡ Json → IsLine IsJson text) × (form ≡ Words → NamesTag tag text)
 
--- A text, or a fault of the file, is what an outcome says of the file of this tag. A window is written as a graymap or a pixmap, and of a
--- part of a level nothing else. The text of Info begins with the line of the tag. A description has the form that was asked for. Neither has
--- samples. That there is no report is said of a part of a level alone, where Info gave its window last. That a rectangle has no window, or a
+-- What is written is what an outcome says of the file with this ETag. A window is written as a graymap or a pixmap. Of a part of a level
+-- nothing else is written. The text of Info begins with the line of the ETag. A description has the form that was asked for. Neither has
+-- samples. `NoReport` stands here only for a part of a level of which Info gave the window last. That a rectangle has no window, or a
 -- window no world file, is what Info says of the file.
 abbrev pub IsWritten : Asked → (tag : List ℕ) → Outcome → Result Text ReadError → Type 0
 IsWritten a tag (outcome.Window v) (Ok text) = text.head.items ++ text.samples.now ≡ netpbm v.samples v.bits v.w v.h v.pixels.items
@@ -109,7 +109,7 @@ IsWritten a tag o (Err (OfFile fault)) = o ≡ outcome.Fault fault
 IsWritten a tag o (Err (NotUsed why)) = ⊥
 IsWritten a tag o (Err Memory) = ⊤
 
--- the query is for this part of the level, with its world file, in each file of the book that has this tag
+-- the query is for this part of the level, with its world file, in each file of the book that has this ETag
 abbrev pub IsOfPartBy : Book → List ℕ → Part → Query → Option WorldFile → Type 0
 IsOfPartBy book tag part q world = (p : Publication) → In p book → p.tag ≡ tag → IsOfPart p.file part q world
 
@@ -118,8 +118,8 @@ abbrev pub HasWorld : Option WorldFile → Result Text ReadError → Type 0
 HasWorld world (Ok text) = text.world ≡ world
 HasWorld world (Err error) = ⊤
 
--- A report that answers what is asked of one publication of the book, of the one whose tag it tells, is true of that one, and is what is
--- written.
+-- A report answers what is asked of one publication in the book: the one whose ETag it has. It is true of this publication, and it is what
+-- is written.
 pub record IsTrueOfBook (name : List ℕ) (book : Book) (a : Asked) (written : Result Text ReadError) : Type 0 where
   pub report : Report
   pub holds : IsTrueReport report name (Some report.query) book
@@ -128,7 +128,7 @@ pub record IsTrueOfBook (name : List ℕ) (book : Book) (a : Asked) (written : R
   pub beside : HasWorld world written
   pub says : IsWritten a report.tag report.outcome written
 
--- it is a text, a fault of the file, or that the file gives no window or no world file
+-- what is written is a text, a fault of the file, or that the file gives no window or no world file
 abbrev pub IsOfFile : Result Text ReadError → Type 0
 IsOfFile (Ok text) = ⊤
 IsOfFile (Err (OfFile fault)) = ⊤
@@ -140,11 +140,11 @@ IsOfFile (Err error) = ⊥
 abbrev pub WritesTrue : List ℕ → Book → Asked → Result Text ReadError → Type 0
 WritesTrue name book a written = IsOfFile written → IsTrueOfBook name book a written
 
--- Nothing stands that could be written: no report, or of a part of a level one of Info that gives its window.
+-- There is nothing to write: no report, or for a part of a level only one of Info that gives its window.
 abbrev pub HasNothing : Asked → Option Report → Type 0
 HasNothing a None = ⊤
 HasNothing a (Some r) = GivesWindow a r.outcome
 
--- no more than the most, or than there were before
+-- at most `most`, or at most as many as before
 abbrev pub StaysWithin : (most before after : ℕ) → Type 0
 StaysWithin most before after = after ≤ max most before

@@ -8,7 +8,7 @@ abbrev pub is_lasting_status : ℕ → Bool
 is_lasting_status n = (n == 301) || (n == 302) || (n == 303) || (n == 307) || (n == 308)
     || (n == 400) || (n == 401) || (n == 403) || (n == 404) || (n == 410)
 
--- a reason that is expected to stay: such a status, or no ETag that is read
+-- a reason that is expected to stay: such a status code, or no ETag that can be used
 abbrev pub is_lasting : Why → Bool
 is_lasting (Status n) = is_lasting_status n
 is_lasting NoTag = true

@@ -1,4 +1,4 @@
--- What others know of a source whose exchanges are noted.
+-- What callers know of a source whose exchanges are noted.
 use Rattle.std.specs.Prelude.{◌≡◌, ◌⊎◌, ◌+◌, ◌-◌, ◌<◌, ◌++◌, ℕ, Bool, true, false, if◌then◌else◌, nat_lt, List, [], Ok, Err, Some, codes, length, min, take}
 use Rattle.http_fields.specs.Fields.{only, values_of}
 use Rattle.http_range.specs.Announced.{announced}
@@ -11,7 +11,7 @@ use Rattle.read_progress.specs.declared.noted.Came.TheVariants.{Brought, Nothing
 use Rattle.read_progress.specs.declared.noted.Noted.{Noted}
 use Rattle.read_progress.specs.declared.noted.Progress.{Progress}
 
--- a sum of numbers of 64 bits, the greatest of them where it has no room
+-- the sum of two numbers of 64 bits, or the greatest such number if the sum is above it
 abbrev sum : ℕ → ℕ → ℕ
 sum a b = min (a + b) 18446744073709551615
 
@@ -20,7 +20,7 @@ abbrev brings : Came → Bool
 brings (Brought head count) = nat_lt 0 count
 brings came = false
 
--- Of the request the value of its only Range field is noted; nothing where it has none, or memory is wanting.
+-- The value of the request's Range field is noted, if it has exactly one. Nothing is noted if it doesn't, or if memory ran out.
 abbrev pub NotesRange : List ℕ → List ℕ → Type 0
 NotesRange request range =
     (range ≡ [])
@@ -49,17 +49,17 @@ module _ {R P : Type 0} where
   abbrev pub before_of : Noted R P → Progress
   before_of s = s.before
 
-  -- Where the front is all that came, the bytes are noted behind it, as far as a head may go, or without memory none of them. Else it stays.
+  -- If the front is all that came before, the new bytes are noted after it, as far as a head may go. Or the front stays.
   abbrev pub NotesOf : List ℕ → Noted R P → Noted R P → Type 0
   NotesOf bytes old new =
       ((bytes_of old ≡ length (front_of old)) × (front_of new ≡ front_of old ++ take (4096 - length (front_of old)) bytes))
       ⊎ (front_of new ≡ front_of old)
 
-  -- bytes came, of which this is read
+  -- bytes came, from which the following is read
   abbrev pub Has : Noted R P → Type 0
   Has s = (sent_of s ≡ true) × (0 < bytes_of s)
 
-  -- what came of the last exchange; of a body no more than its head announces
+  -- what came of the last exchange; no more of a body than its head announces
   abbrev pub HasCome : Noted R P → Came → Type 0
   HasCome s Unsent = sent_of s ≡ false
   HasCome s Nothing = (sent_of s ≡ true) × (bytes_of s ≡ 0)
@@ -67,17 +67,17 @@ module _ {R P : Type 0} where
   HasCome s (Brought head count) =
       Has s × ReadsHead (front_of s) (Ok (announced head)) × (count ≡ min (bytes_of s - head.size) head.length)
 
-  -- the last answer isn't used for this reason, nor will the next one be
+  -- the last answer isn't used, for a reason that is expected to stay
   abbrev pub IsRefused : Why → Noted R P → Type 0
   IsRefused why s = HasCome s (NotUsed why) × (is_lasting why ≡ true)
 
-  -- what all exchanges brought: before the last one, and by it
+  -- what all exchanges brought: those before the last one, and this one
   abbrev pub HasBrought : Noted R P → Progress → Type 0
   HasBrought s all = (came : Came) × HasCome s came
       × (all.had ≡ sum (before_of s).had (if brings came then 1 else 0))
       × (all.asked ≡ (before_of s).asked)
       × (all.bytes ≡ sum (before_of s).bytes (bytes_of s))
 
-  -- one more range is asked for, and nothing has come of it yet
+  -- one more range is asked for, and nothing of it has come yet
   abbrev pub AsksMore : Noted R P → Noted R P → Type 0
   AsksMore old new = (all : Progress) × HasBrought old all × (before_of new ≡ record all { asked = sum all.asked 1 })

@@ -8,6 +8,6 @@ use Rattle.reference_support.specs.declared.fields.Entry.{Entry}
 abbrev pub field_of : Entry → Field
 field_of e = record { tag = e.tag; kind = e.kind; count = e.count; place = e.place }
 
--- where the values of the field with this tag stand
+-- The place where the values of the field with this tag stand.
 abbrev pub place_in : List ℕ → ℕ → ℕ → Option Place
 place_in f k tag = field f k tag >>= place_of f

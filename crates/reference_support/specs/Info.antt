@@ -4,11 +4,11 @@ use Rattle.std.specs.Prelude.{◌≡◌, ℕ, ◌<◌, List, length, get_or, sli
 use Rattle.tiff_dir.specs.File.{◌>>=◌, field, value}
 use Rattle.tiff_dir.specs.Level.{level_directories, level_value}
 
--- how many values the field with this tag has
+-- The number of values of the field with this tag.
 abbrev pub value_count : List ℕ → ℕ → ℕ → Option ℕ
 value_count f k tag = field f k tag >>= λ e. e.count
 
--- These are the values of the field with this tag in directory k, as many as it counts.
+-- These are the values of the field with this tag in directory `k`, as many as it counts.
 pub record AreValues (f : List ℕ) (k tag : ℕ) (vs : List ℕ) : Type 0 where
   pub count : value_count f k tag ≡ Some (length vs)
   pub each : (i : ℕ) → i < length vs → value f k tag i ≡ Some (get_or vs i 0)
@@ -16,7 +16,7 @@ pub record AreValues (f : List ℕ) (k tag : ℕ) (vs : List ℕ) : Type 0 where
 abbrev pub HasNoValues : (f : List ℕ) (k tag : ℕ) → Type 0
 HasNoValues f k tag = (vs : List ℕ) → AreValues f k tag vs → ⊥
 
--- the width and the length of level n
+-- The width and the length of level `n`.
 abbrev pub sides_of : List ℕ → ℕ → Option (ℕ × ℕ)
 sides_of f n = do
   width ← level_value f n IMAGE_WIDTH 0

@@ -1,12 +1,11 @@
--- Levels that the plain program reads: those whose numbers and products have 64 bits, and whose tiles
--- have sides.
+-- Levels that the plain program reads: those whose numbers and products have 64 bits, and whose tiles have sides.
 use Rattle.std.specs.Prelude.{ℕ, ◌+◌, ◌^◌, Bool, ◌&&◌, nat_lt, nat_le, length, slice_range, if◌then◌else◌, List, Option, Some, None}
 use Rattle.tiff_dir.specs.File.{◌>>=◌}
 use Rattle.tiff_dir.specs.Level as file
 use Rattle.reference_support.specs.declared.levels.Grid.{Grid}
 use Rattle.reference_support.specs.declared.levels.Level.{Level}
 
--- as the definitions see them
+-- The grid and the layout, as the definitions see them.
 abbrev pub grid_of : Grid → file.Grid
 grid_of g = record { width = g.width; length = g.length; tile_width = g.tile_width; tile_length = g.tile_length }
 
@@ -37,7 +36,7 @@ is_modest l = is_modest_grid l.grid && are_modest l.samples l.bits
 abbrev pub when_modest : file.Layout → Option file.Layout
 when_modest l = if is_modest l then Some l else None
 
--- the grid and the layout of directory k, and of level n
+-- The grid and the layout of directory `k`, and those of level `n`.
 abbrev pub modest_grid_at : List ℕ → ℕ → Option file.Grid
 modest_grid_at f k = file.grid_at f k >>= when_modest_grid
 
@@ -50,6 +49,6 @@ modest_grid f n = file.level_grid f n >>= when_modest_grid
 abbrev pub modest_level : List ℕ → ℕ → Option file.Layout
 modest_level f n = file.level_layout f n >>= when_modest
 
--- count bytes from first, where they are in the file
+-- The `count` bytes from `first`, where they are in the file.
 abbrev pub part : List ℕ → ℕ → ℕ → Option (List ℕ)
 part f first count = if nat_lt (length f) (first + count) then None else Some (slice_range f first (first + count))

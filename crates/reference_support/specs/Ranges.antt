@@ -10,6 +10,6 @@ extent_of r = record { first = r.first; len = r.len }
 abbrev pub extents_of : List Extent → List extent.Extent
 extents_of rs = map extent_of rs
 
--- the blocks of a range that ends inside a file of so many bytes
+-- The number of blocks of a range that ends inside a file of `complete` bytes.
 abbrev pub blocks_inside : ℕ → extent.Extent → ℕ
 blocks_inside complete r = if nat_lt complete (r.first + r.len) then 0 else blocks_of_extent r

@@ -10,7 +10,7 @@ use std::alloc::{AllocError, Global};
 use tiff_dir::tags::{IMAGE_LENGTH, IMAGE_WIDTH};
 use tiff_dir::{Pick, Query};
 
-/// Whether level `n` has at least so many columns of `w` columns of level 0.
+/// Returns whether level `n` has at least `columns` columns for `w` columns of level 0.
 fn has_columns(
     alloc: Global,
     file: &[u8],
@@ -33,7 +33,7 @@ fn has_columns(
     }
 }
 
-/// The greatest level with at least so many columns, level 0 if there is none.
+/// Returns the greatest number of a level with at least `columns` columns, or 0 if there is none.
 #[tactic(auto, unfolding(tiff_dir::specs::Query::smallest_level))]
 fn smallest_level(alloc: Global, file: &[u8], columns: u32, w: u32) -> Result<usize, AllocError>
     ensures { IfOk result (λ n. n ≡ smallest_level file.now columns w) }
@@ -48,7 +48,7 @@ fn smallest_level(alloc: Global, file: &[u8], columns: u32, w: u32) -> Result<us
     Ok(level)
 }
 
-/// A place along a side of level 0, along the same side of another level, rounded down.
+/// Returns a place along a side of level 0 as a place along the same side of another level, rounded down.
 fn scaled_down(side: u64, first: u64, at: u64) -> u128
     requires { at < 2 ^ 34 }
     ensures value { result ≡ scaled_down side first at }
@@ -60,7 +60,7 @@ fn scaled_down(side: u64, first: u64, at: u64) -> u128
     u128::from(at) * u128::from(side) / u128::from(first)
 }
 
-/// The same, rounded up.
+/// Returns the same, rounded up.
 fn scaled_up(side: u64, first: u64, at: u64) -> u128
     requires { at < 2 ^ 34 }
     ensures value { result ≡ scaled_up side first at }
@@ -72,7 +72,7 @@ fn scaled_up(side: u64, first: u64, at: u64) -> u128
     (u128::from(at) * u128::from(side) + u128::from(first) - 1) / u128::from(first)
 }
 
-/// The window of level 0 in level `n`, rounded outwards.
+/// Returns the window of level 0 as a rectangle of level `n`, rounded outwards.
 #[tactic(auto, unfolding(tiff_dir::specs::Query::scaled))]
 fn scaled(
     alloc: Global,
@@ -110,7 +110,7 @@ fn scaled(
     }))
 }
 
-/// The rectangle that the query asks for.
+/// Returns the rectangle that the query asks for.
 #[tactic(auto, unfolding(tiff_dir::specs::Query::rectangle))]
 pub fn asked_rectangle(
     alloc: Global,

@@ -9,9 +9,9 @@ use tiff_dir::{FileFault, Memory, Span, Walk, WalkError};
 /// What the next range of a file did to a walk.
 #[derive(Clone, Copy, Debug, PartialEq, Eq)]
 pub enum Next {
-    /// It took this range.
+    /// The walk took this range.
     Went(Span),
-    /// It has ended.
+    /// The walk has ended.
     Ended,
     /// The file has this fault.
     Refused(FileFault),
@@ -33,14 +33,14 @@ pub fn take_next(walk: &mut Walk, file: &[u8]) -> Result<Next, Memory>
     }
 }
 
-/// The ranges that a walk took, in turn, and the walk at its end or the fault at which it stopped.
+/// The ranges that a walk took, in turn, and the walk at its end, or the fault at which it stopped.
 #[derive(Drop)]
 pub struct Course {
     pub ranges: Vec<Span>,
     pub end: Result<Walk, FileFault>,
 }
 
-/// A walk over all directories of the file.
+/// Walks over all directories of the file.
 pub fn walk_over(alloc: Global, file: &[u8]) -> Result<Course, Memory>
     ensures { IfOk result (λ course. IsWalked file.now course.end) }
 {

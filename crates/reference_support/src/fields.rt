@@ -1,4 +1,4 @@
-//! The fields of a directory and their values.
+//! The fields of a directory, and their values.
 ghost use Rattle.std.specs.Prelude.{◌≡◌, ◌<◌, ◌^◌, ◌+◌, ◌*◌, IfSome, false, ◌==◌, length, Option};
 ghost use Rattle.std.specs.Option.{option_map, option_map_or};
 ghost use Rattle.tiff_dir.specs.Level.{place_of};
@@ -11,8 +11,7 @@ use crate::numbers::{long, number, short};
 use tiff_dir::tags::{NEW_SUBFILE_TYPE, PLANAR_CONFIGURATION, SAMPLE_FORMAT, SAMPLES_PER_PIXEL};
 use tiff_dir::{Kind, Place};
 
-/// What an entry says of its field, and where the entry stands. Type and count are there where their bytes are in the
-/// file.
+/// What an entry says of its field, and where the entry stands. Type and count are there where their bytes are in the file.
 #[derive(Clone, Copy, Debug, PartialEq, Eq)]
 pub struct Entry {
     pub tag: u16,
@@ -21,7 +20,7 @@ pub struct Entry {
     pub place: u64,
 }
 
-/// The entry at this place, where its tag is in the file.
+/// Returns the entry at this place, where its tag is in the file.
 #[tactic(auto, unfolding(tiff_dir::specs::File::field_at))]
 fn entry_at(file: &[u8], at: u64) -> Option<Entry>
     requires { at < 2 ^ 62 }
@@ -46,7 +45,7 @@ fn has_tag(entry: Option<Entry>, tag: u16) -> bool
     }
 }
 
-/// The first of the `entries` entries from `first` that has the tag.
+/// Returns the first of the `entries` entries from `first` that has the tag.
 fn find_entry(file: &[u8], first: u64, entries: u16, tag: u16) -> Option<Entry>
     requires { first + 12 * entries < 2 ^ 62 }
     ensures found { option_map field_of result ≡ field_with_tag tag (fields_from file.now first entries) }
@@ -61,7 +60,7 @@ fn find_entry(file: &[u8], first: u64, entries: u16, tag: u16) -> Option<Entry>
     None
 }
 
-/// How many of the `entries` entries from `first` have their tags in the file.
+/// Returns how many of the `entries` entries from `first` have their tags in the file.
 fn count_tags(file: &[u8], first: u64, entries: u16) -> u64
     requires { first + 12 * entries < 2 ^ 62 }
     ensures { result ≡ length (fields_from file.now first entries) }
@@ -76,7 +75,7 @@ fn count_tags(file: &[u8], first: u64, entries: u16) -> u64
     count
 }
 
-/// The field with the tag in directory `k`.
+/// Returns the field with the tag in directory `k`.
 #[tactic(auto, unfolding(tiff_dir::specs::File::field, tiff_dir::specs::File::fields))]
 pub fn field(file: &[u8], k: u32, tag: u16) -> Option<Entry>
     ensures found { option_map field_of result ≡ field file.now k tag }
@@ -87,7 +86,7 @@ pub fn field(file: &[u8], k: u32, tag: u16) -> Option<Entry>
     find_entry(file, at + 2, entries, tag)
 }
 
-/// Whether the tags of all entries of directory `k` are in the file.
+/// Returns whether the tags of all entries of directory `k` are in the file.
 #[tactic(auto, unfolding(tiff_dir::specs::File::has_all_tags, tiff_dir::specs::File::fields, tiff_dir::specs::File::entry_count))]
 pub fn has_all_tags(file: &[u8], k: u32) -> bool
     ensures { result ≡ has_all_tags file.now k }
@@ -101,7 +100,7 @@ pub fn has_all_tags(file: &[u8], k: u32) -> bool
     }
 }
 
-/// The type of this number.
+/// Returns the type of this number.
 pub fn kind_of(number: u16) -> Option<Kind>
     ensures { result ≡ kind_of number }
 {
@@ -122,7 +121,7 @@ pub fn kind_of(number: u16) -> Option<Kind>
     }
 }
 
-/// Where values of `len` bytes of the field begin.
+/// Returns where values of `len` bytes of the field begin.
 #[tactic(auto, unfolding(tiff_dir::specs::File::values_at))]
 fn values_at(file: &[u8], entry: Entry, len: u64) -> Option<u64>
     requires { entry.place < 2 ^ 62 }
@@ -136,7 +135,7 @@ fn values_at(file: &[u8], entry: Entry, len: u64) -> Option<u64>
     }
 }
 
-/// Value `i` of the field.
+/// Returns value `i` of the field.
 #[tactic(auto, unfolding(tiff_dir::specs::File::field_value))]
 pub fn field_value(file: &[u8], entry: Entry, i: u64) -> Option<u64>
     requires { entry.place < 2 ^ 62 }
@@ -151,7 +150,7 @@ pub fn field_value(file: &[u8], entry: Entry, i: u64) -> Option<u64>
     number(file, at + i * kind.size(), kind.size() as usize)
 }
 
-/// What each value of an absent field stands for.
+/// Returns what each value of an absent field stands for.
 fn default_of(tag: u16) -> Option<u64>
     ensures { result ≡ default_of tag }
 {
@@ -162,7 +161,7 @@ fn default_of(tag: u16) -> Option<u64>
     }
 }
 
-/// Value `i` of the field with this tag in directory `k`.
+/// Returns value `i` of the field with this tag in directory `k`.
 #[tactic(auto, unfolding(tiff_dir::specs::File::value))]
 pub fn value(file: &[u8], k: u32, tag: u16, i: u64) -> Option<u64>
     ensures { result ≡ value file.now k tag i }
@@ -174,7 +173,7 @@ pub fn value(file: &[u8], k: u32, tag: u16, i: u64) -> Option<u64>
     }
 }
 
-/// Where the values of a field stand.
+/// Returns where the values of a field stand.
 #[tactic(auto, unfolding(tiff_dir::specs::Level::place_of))]
 fn place_of(file: &[u8], entry: Entry) -> Option<Place>
     requires { entry.place < 2 ^ 62 }
@@ -192,7 +191,7 @@ fn place_of(file: &[u8], entry: Entry) -> Option<Place>
     })
 }
 
-/// Where the values of the field with this tag in directory `k` stand.
+/// Returns where the values of the field with this tag in directory `k` stand.
 pub fn place(file: &[u8], k: u32, tag: u16) -> Option<Place>
     ensures { result ≡ place_in file.now k tag }
 {

@@ -7,14 +7,14 @@ use crate::levels::{level_directories, level_value};
 use std::alloc::{AllocError, Global};
 use tiff_dir::tags::{IMAGE_LENGTH, IMAGE_WIDTH};
 
-/// How many values the field with this tag in directory `k` has.
+/// Returns how many values the field with this tag in directory `k` has.
 fn value_count(file: &[u8], k: u32, tag: u16) -> Option<u32>
     ensures { result ≡ value_count file.now k tag }
 {
     field(file, k, tag)?.count
 }
 
-/// The values of the field with this tag in directory `k`, where the field is there and all its values are.
+/// Returns the values of the field with this tag in directory `k`, where the field is there and all its values are.
 pub fn values(alloc: Global, file: &[u8], k: u32, tag: u16) -> Result<Option<Vec<u64>>, AllocError>
     ensures some { IfOk result (λ o. IfSome o (λ v. AreValues file.now k tag v.items)) }
     ensures none { IfOk result (λ o. IfNone o (HasNoValues file.now k tag)) }
@@ -32,7 +32,7 @@ pub fn values(alloc: Global, file: &[u8], k: u32, tag: u16) -> Result<Option<Vec
     Ok(Some(values))
 }
 
-/// The width and the length of each level, in order, where all are there.
+/// Returns the width and the length of each level, in order, where all are there.
 pub fn level_sides(alloc: Global, file: &[u8]) -> Result<Option<Vec<(u64, u64)>>, AllocError>
     ensures some { IfOk result (λ o. IfSome o (λ v. AreSides file.now v.items)) }
     ensures none { IfOk result (λ o. IfNone o (HasNoSides file.now)) }
@@ -48,7 +48,7 @@ pub fn level_sides(alloc: Global, file: &[u8]) -> Result<Option<Vec<(u64, u64)>>
     Ok(Some(sides))
 }
 
-/// The width and the length of level `n`, where both are there.
+/// Returns the width and the length of level `n`, where both are there.
 fn sides_of(alloc: Global, file: &[u8], n: usize) -> Result<Option<(u64, u64)>, AllocError>
     ensures { IfOk result (λ o. o ≡ sides_of file.now n) }
 {

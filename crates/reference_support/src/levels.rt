@@ -1,4 +1,4 @@
-//! The levels of a file and the bytes of their tiles.
+//! The levels of a file, and the bytes of their tiles.
 ghost use Rattle.std.specs.Prelude.{◌≡◌, ◌<◌, ◌^◌, ◌*◌, ◌&&◌, nat_lt, IfOk, IfSome, IsTrue, option_copied, length, Some, None};
 ghost use Rattle.tiff_dir.specs.Level.{compression_of, depth_at, is_level, level_directories, level_directory, level_value};
 ghost use Rattle.tiff_dir.specs.Query.{segment};
@@ -16,7 +16,7 @@ use tiff_dir::tags::{
 };
 use tiff_dir::{Codec, Compression, Place};
 
-/// Whether directory `k` is a level.
+/// Returns whether directory `k` is a level.
 #[tactic(auto, unfolding(tiff_dir::specs::Level::is_level))]
 pub fn is_level(file: &[u8], k: u32) -> bool
     ensures { result ≡ is_level file.now k }
@@ -30,7 +30,7 @@ pub fn is_level(file: &[u8], k: u32) -> bool
     }
 }
 
-/// The directories that are levels, in order.
+/// Returns the directories that are levels, in order.
 #[tactic(auto, unfolding(tiff_dir::specs::Level::level_directories, tiff_dir::specs::File::directories))]
 pub fn level_directories(alloc: Global, file: &[u8]) -> Result<Vec<u32>, AllocError>
     ensures { IfOk result (λ ks. ks.items ≡ level_directories file.now) }
@@ -41,7 +41,7 @@ pub fn level_directories(alloc: Global, file: &[u8]) -> Result<Vec<u32>, AllocEr
         .collect(alloc)
 }
 
-/// The directory of level `n`.
+/// Returns the directory of level `n`.
 #[tactic(auto, unfolding(tiff_dir::specs::Level::level_directory))]
 pub fn level_directory(alloc: Global, file: &[u8], n: usize) -> Result<Option<u32>, AllocError>
     ensures { IfOk result (λ k. k ≡ level_directory file.now n) }
@@ -62,7 +62,7 @@ fn compression_of(number: u64) -> Option<Compression>
     }
 }
 
-/// How a level is cut into tiles: its sides and the tiles', in pixels.
+/// How a level is cut into tiles: its sides and those of the tiles, in pixels.
 #[derive(Clone, Copy, Debug, PartialEq, Eq)]
 pub struct Grid {
     pub width: u32,
@@ -82,7 +82,7 @@ pub struct Level {
     pub counts: Place,
 }
 
-/// Whether the plain program reads a level of these sides.
+/// Returns whether the plain program reads a level with this side.
 fn is_modest_side(side: u64) -> bool
     ensures { result ≡ nat_lt side (2 ^ 30) }
 {
@@ -95,7 +95,7 @@ fn is_modest_tile_side(side: u64) -> bool
     side > 0 && side < 1 << 24
 }
 
-/// The grid of directory `k`, where its numbers are modest.
+/// Returns the grid of directory `k`, where its numbers are modest.
 #[tactic(auto, unfolding(tiff_dir::specs::Level::grid_at))]
 pub fn grid_at(file: &[u8], k: u32) -> Option<Grid>
     ensures grid { option_map grid_of result ≡ modest_grid_at file.now k }
@@ -119,7 +119,7 @@ pub fn grid_at(file: &[u8], k: u32) -> Option<Grid>
     })
 }
 
-/// The depth of directory `k`'s samples, where it is 8 or 16 bits.
+/// Returns the depth of directory `k`'s samples, where it is 8 or 16 bits.
 #[tactic(auto, unfolding(tiff_dir::specs::Level::depth_at))]
 fn depth_at(file: &[u8], k: u32) -> Option<u64>
     ensures { result ≡ depth_at file.now k }
@@ -132,7 +132,7 @@ fn depth_at(file: &[u8], k: u32) -> Option<u64>
     }
 }
 
-/// The level that directory `k` describes, where its numbers are modest.
+/// Returns the level that directory `k` describes, where its numbers are modest.
 #[tactic(auto, unfolding(tiff_dir::specs::Level::layout_at))]
 pub fn level_at(file: &[u8], k: u32) -> Option<Level>
     ensures level { option_map layout_of result ≡ modest_at file.now k }
@@ -157,7 +157,7 @@ pub fn level_at(file: &[u8], k: u32) -> Option<Level>
     })
 }
 
-/// The grid of level `n`, where its numbers are modest.
+/// Returns the grid of level `n`, where its numbers are modest.
 #[tactic(auto, unfolding(tiff_dir::specs::Level::level_grid))]
 pub fn level_grid(alloc: Global, file: &[u8], n: usize) -> Result<Option<Grid>, AllocError>
     ensures grid { IfOk result (λ o. option_map grid_of o ≡ modest_grid file.now n) }
@@ -169,7 +169,7 @@ pub fn level_grid(alloc: Global, file: &[u8], n: usize) -> Result<Option<Grid>, 
     }
 }
 
-/// Level `n`, where its numbers are modest.
+/// Returns level `n`, where its numbers are modest.
 #[tactic(auto, unfolding(tiff_dir::specs::Level::level_layout))]
 pub fn level_of(alloc: Global, file: &[u8], n: usize) -> Result<Option<Level>, AllocError>
     ensures level { IfOk result (λ o. option_map layout_of o ≡ modest_level file.now n) }
@@ -181,7 +181,7 @@ pub fn level_of(alloc: Global, file: &[u8], n: usize) -> Result<Option<Level>, A
     }
 }
 
-/// Value `i` of the field with this tag in level `n`.
+/// Returns value `i` of the field with this tag in level `n`.
 #[tactic(auto, unfolding(tiff_dir::specs::Level::level_value))]
 pub fn level_value(
     alloc: Global,
@@ -198,7 +198,7 @@ pub fn level_value(
     }
 }
 
-/// `count` bytes from `first`, where they are in the file.
+/// Returns the `count` bytes from `first`, where they are in the file.
 fn part(file: &[u8], first: u64, count: u64) -> Option<&[u8]>
     ensures { option_copied result ≡ part file.now first count }
 {
@@ -209,7 +209,7 @@ fn part(file: &[u8], first: u64, count: u64) -> Option<&[u8]>
     Some(&file[first as usize..end as usize])
 }
 
-/// The bytes of tile `t` of level `n`.
+/// Returns the bytes of tile `t` of level `n`.
 #[tactic(auto, unfolding(tiff_dir::specs::Query::segment, tiff_dir::specs::Query::tile_range))]
 pub fn segment(alloc: Global, file: &[u8], n: usize, t: u64) -> Result<Option<&[u8]>, AllocError>
     ensures { IfOk result (λ bytes. option_copied bytes ≡ segment file.now n t) }

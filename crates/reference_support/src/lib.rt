@@ -1,5 +1,5 @@
-//! A plain program that reads a whole file in memory by the definitions alone, and a walk over the directories of such a file.
-//! Tests compare the product with the plain program; nothing else stands on it.
+//! A plain program that reads a whole file in memory by the definitions alone, and a walk over the directories of such a file. Tests
+//! compare the product with the plain program, and nothing else stands on it.
 #![tactic(auto)]
 
 mod asked;

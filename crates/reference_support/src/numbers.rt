@@ -6,7 +6,7 @@ ghost use Rattle.tiff_dir.specs.File.{order_of, number};
 use byteorder::{BigEndian, ByteOrder, LittleEndian};
 use tiff_dir::Order;
 
-/// The order that the first two bytes name.
+/// Returns the order that the first two bytes name.
 #[tactic(auto, unfolding(tiff_dir::specs::File::order_of))]
 pub fn order_of(file: &[u8]) -> Option<Order>
     ensures { result ≡ order_of file.now }
@@ -20,7 +20,7 @@ pub fn order_of(file: &[u8]) -> Option<Order>
     }
 }
 
-/// The number of the `size` bytes from `at`, which are there.
+/// Returns the number of the `size` bytes from `at`, which are there.
 pub(crate) fn number_in(order: Order, bytes: &[u8], at: usize, size: usize) -> u64
     requires some { 1 ≤ size }
     requires few { size ≤ 8 }
@@ -33,7 +33,7 @@ pub(crate) fn number_in(order: Order, bytes: &[u8], at: usize, size: usize) -> u
     }
 }
 
-/// The number of the `size` bytes from `at`, where they are in the file.
+/// Returns the number of the `size` bytes from `at`, where they are in the file.
 #[tactic(auto, unfolding(tiff_dir::specs::File::number))]
 pub fn number(file: &[u8], at: u64, size: usize) -> Option<u64>
     requires some { 1 ≤ size }
@@ -68,7 +68,7 @@ pub(crate) fn long_in(order: Order, bytes: &[u8], at: usize) -> u32
     }
 }
 
-/// The number of the two bytes from `at`, where they are in the file.
+/// Returns the number of the two bytes from `at`, where they are in the file.
 #[tactic(auto, unfolding(tiff_dir::specs::File::number))]
 pub fn short(file: &[u8], at: u64) -> Option<u16>
     requires { at < 2 ^ 63 }
@@ -81,7 +81,7 @@ pub fn short(file: &[u8], at: u64) -> Option<u16>
     Some(short_in(order, file, at as usize))
 }
 
-/// The number of the four bytes from `at`, where they are in the file.
+/// Returns the number of the four bytes from `at`, where they are in the file.
 #[tactic(auto, unfolding(tiff_dir::specs::File::number))]
 pub fn long(file: &[u8], at: u64) -> Option<u32>
     requires { at < 2 ^ 63 }

@@ -6,7 +6,7 @@ ghost use Rattle.reference_support.specs.Unpacking.{IsNotPacked, PushesNext};
 use std::alloc::{AllocError, Global};
 use tiff_dir::law_one_text;
 
-/// Whether `count` bytes after the first `len` are in one row of `row` bytes. A row of 0 bytes has room for none.
+/// Returns whether `count` bytes after the first `len` are in one row of `row` bytes. A row of 0 bytes has room for none.
 fn has_room(len: usize, count: usize, row: usize) -> bool
     ensures { IsTrue result ↔ (len % row + count ≤ row) }
 {
@@ -17,7 +17,7 @@ fn has_room(len: usize, count: usize, row: usize) -> bool
 /// The length of the packet whose output was appended, if there is one that has room.
 type Pushed = Result<Option<usize>, AllocError>;
 
-/// Appends the `count` bytes after the first one, which says so many, where `out` has room for them in its row.
+/// Appends the `count` bytes after the first one, where `out` has room for them in its row. The first byte says how many they are.
 fn push_copied(out: &mut Vec<u8>, bytes: &[u8], count: usize, row: usize) -> Pushed
     requires some { 1 ≤ count }
     requires few { count ≤ 128 }
@@ -31,7 +31,7 @@ fn push_copied(out: &mut Vec<u8>, bytes: &[u8], count: usize, row: usize) -> Pus
     Ok(Some(count + 1))
 }
 
-/// Appends the byte after the first one `times` times, where the first one says so and `out` has room for them in its row.
+/// Appends the byte after the first one `times` times, where `out` has room for them in its row. The first byte says how many they are.
 fn push_repeated(out: &mut Vec<u8>, bytes: &[u8], times: usize, row: usize) -> Pushed
     requires some { 2 ≤ times }
     requires few { times ≤ 128 }
@@ -49,7 +49,7 @@ fn push_repeated(out: &mut Vec<u8>, bytes: &[u8], times: usize, row: usize) -> P
     Ok(Some(2))
 }
 
-/// Appends what the first packet of the bytes stands for, and gives its length.
+/// Appends what the first packet of the bytes stands for. Returns its length.
 fn push_packet(out: &mut Vec<u8>, bytes: &[u8], row: usize) -> Pushed
     ensures { IfOk result (PushesNext row bytes.now out.old.items out.new.items) }
 {
@@ -68,7 +68,7 @@ fn push_packet(out: &mut Vec<u8>, bytes: &[u8], row: usize) -> Pushed
     }
 }
 
-/// What the packets stand for, in rows of `row` bytes, where they are packets and no row is crossed.
+/// Returns what the packets stand for, in rows of `row` bytes, where they are packets and cross no row.
 pub fn unpack(alloc: Global, bytes: &[u8], row: usize) -> Result<Option<Vec<u8>>, AllocError>
     ensures packed { IfOk result (λ o. IfSome o (λ out. Packs row bytes.now out.items)) }
     ensures refused { IfOk result (λ o. IfNone o (IsNotPacked row bytes.now)) }

@@ -1,4 +1,4 @@
-//! What a query asks for, and the tiles that a window needs.
+//! The windows that queries ask for, and the tiles that they need.
 ghost use Rattle.std.specs.Prelude.{◌≡◌, ◌<◌, ◌^◌, ◌+◌, ◌-◌, ◌*◌, ◌/◌, true, false, IsTrue, nat_lt, IfOk, IfSome, IfNone, None, Some, length};
 ghost use Rattle.tiff_dir.specs.Profile.{tiles_along};
 ghost use Rattle.tiff_dir.specs.Level.{across as across_of};
@@ -24,7 +24,7 @@ fn passes(end: u64, side: Option<u64>) -> bool
     }
 }
 
-/// Whether the window is empty, its level isn't there, or it passes a side of the level.
+/// Returns whether the window is empty, its level isn't there, or it passes a side of the level.
 fn is_outside_level(
     alloc: Global,
     file: &[u8],
@@ -44,7 +44,7 @@ fn is_outside_level(
     Ok(passes(u64::from(x) + u64::from(w), width) || passes(u64::from(y) + u64::from(h), length))
 }
 
-/// Whether the window is outside the level that its numbers are given in.
+/// Returns whether the window is outside the level in whose pixels it is given.
 #[tactic(auto, unfolding(tiff_dir::specs::Query::is_outside))]
 pub fn is_outside(alloc: Global, file: &[u8], query: Query) -> Result<bool, AllocError>
     ensures { IfOk result (λ outside. outside ≡ is_outside file.now query) }
@@ -59,7 +59,7 @@ pub fn is_outside(alloc: Global, file: &[u8], query: Query) -> Result<bool, Allo
     }
 }
 
-/// Whether so many columns and rows of so many samples are more than 4,194,304 samples.
+/// Returns whether `width` columns and `height` rows of `samples` samples are more than 4,194,304 samples.
 fn exceeds(width: u128, height: u128, samples: u64) -> bool
     ensures { result ≡ nat_lt MAX_WINDOW_SAMPLES (width * height * samples) }
 {
@@ -75,7 +75,7 @@ fn exceeds(width: u128, height: u128, samples: u64) -> bool
     }
 }
 
-/// Whether the rectangle that is asked for has more than 4,194,304 samples.
+/// Returns whether the rectangle that is asked for has more than 4,194,304 samples.
 #[tactic(auto, unfolding(tiff_dir::specs::Query::is_too_large))]
 pub fn is_too_large(alloc: Global, file: &[u8], query: Query) -> Result<bool, AllocError>
     ensures { IfOk result (λ large. large ≡ is_too_large file.now query) }
@@ -99,7 +99,7 @@ pub(crate) fn tiles_along(side: u32, tile_side: u32) -> u64
     (u64::from(side) + u64::from(tile_side) - 1) / u64::from(tile_side)
 }
 
-/// Whether the tile of this place along a side has a column or row of the rectangle's.
+/// Returns whether the tile of this place along a side has a column or row of the rectangle.
 fn overlaps(place: u64, tile_side: u32, first: u128, count: u128) -> bool
     requires { first + count < 2 ^ 100 }
     ensures { result ≡ overlap (place * tile_side) tile_side first count }
@@ -110,7 +110,7 @@ fn overlaps(place: u64, tile_side: u32, first: u128, count: u128) -> bool
     }
 }
 
-/// Whether tile `t` of the grid, which has `across` tiles side by side, has a pixel of the rectangle.
+/// Returns whether tile `t` of the grid has a pixel of the rectangle. The grid has `across` tiles side by side.
 fn meets(g: &Grid, r: &Rectangle, across: u64, t: u64) -> bool
     requires across { across ≡ across_of (grid_of g.now) }
     requires some { 0 < across }
@@ -120,7 +120,7 @@ fn meets(g: &Grid, r: &Rectangle, across: u64, t: u64) -> bool
         && overlaps(t / across, g.tile_length, r.top, r.height)
 }
 
-/// The tiles of a rectangle, in ascending number.
+/// Returns the tiles of a rectangle, in ascending number.
 #[tactic(auto, unfolding(tiff_dir::specs::Query::tiles_in))]
 fn tiles_in(alloc: Global, g: &Grid, r: &Rectangle) -> Result<Vec<u64>, AllocError>
     requires { IsTrue (is_modest_grid (grid_of g.now)) }
@@ -136,14 +136,14 @@ fn tiles_in(alloc: Global, g: &Grid, r: &Rectangle) -> Result<Vec<u64>, AllocErr
         .collect(alloc)
 }
 
-/// Whether the window is outside or too large.
+/// Returns whether the window is outside or too large.
 pub fn is_refused(alloc: Global, file: &[u8], query: Query) -> Result<bool, AllocError>
     ensures { IfOk result (λ refused. refused ≡ is_refused file.now query) }
 {
     Ok(is_outside(alloc, file, query)? || is_too_large(alloc, file, query)?)
 }
 
-/// The tiles that the window needs, in ascending number, where its level is modest.
+/// Returns the tiles that the window needs, in ascending number, where its level is modest.
 #[tactic(auto, unfolding(tiff_dir::specs::Query::window_tiles))]
 pub fn window_tiles(
     alloc: Global,

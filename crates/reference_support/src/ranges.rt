@@ -24,7 +24,7 @@ use tiff_dir::tags::{
 };
 use tiff_dir::{Place, Query, Span};
 
-/// `len` bytes from `first`.
+/// The `len` bytes from `first`.
 #[derive(Clone, Copy, Debug, PartialEq, Eq)]
 pub struct Extent {
     pub first: u64,
@@ -34,7 +34,7 @@ pub struct Extent {
 impl Extent {
     ghost use Rattle.extents.specs.Extent.{extent_of_span};
 
-    /// The same bytes by their first and their last, where there are some and the last one's place has 64 bits.
+    /// Returns the same bytes by the first and the last, where there are some and the place of the last one has 64 bits.
     pub fn span(self) -> Option<Span>
         ensures { IfSome result (λ s. extent_of_span s ≡ extent_of self) }
     {
@@ -69,7 +69,7 @@ fn table_range(file: &[u8], k: u32) -> Option<Extent>
     })
 }
 
-/// The bytes of a field's values.
+/// Returns the range of a field's values.
 fn place_range(place: Place) -> Extent
     ensures { extent_of result ≡ extent_of_place place }
 {
@@ -106,7 +106,7 @@ fn push_some(out: &mut Vec<Extent>, range: Option<Extent>) -> Result<(), AllocEr
     Ok(())
 }
 
-/// Adds what is read of directory `k`.
+/// Adds the ranges that are read of directory `k`.
 #[tactic(auto, unfolding(tiff_dir::specs::Needs::ranges_of_directory, tiff_dir::specs::Needs::outside_ranges))]
 fn push_directory(out: &mut Vec<Extent>, file: &[u8], k: u32) -> Result<(), AllocError>
     ensures { OnOk result (extents_of out.new.items ≡ extents_of out.old.items ++ ranges_of_directory file.now k) }
@@ -120,7 +120,7 @@ fn push_directory(out: &mut Vec<Extent>, file: &[u8], k: u32) -> Result<(), Allo
     Ok(())
 }
 
-/// The ranges that every query needs, in the order in which they are read.
+/// Returns the ranges that every query needs, in the order in which they are read.
 #[tactic(auto, unfolding(tiff_dir::specs::Needs::needs_of_directories))]
 pub fn needs_of_directories(alloc: Global, file: &[u8]) -> Result<Vec<Extent>, AllocError>
     ensures { IfOk result (λ v. extents_of v.items ≡ needs_of_directories file.now) }
@@ -131,7 +131,7 @@ pub fn needs_of_directories(alloc: Global, file: &[u8]) -> Result<Vec<Extent>, A
     Ok(out)
 }
 
-/// The directories of a file, by their numbers.
+/// Returns the directories of a file, by their numbers.
 #[tactic(auto, unfolding(tiff_dir::specs::File::directories))]
 pub fn all_directories(alloc: Global, file: &[u8]) -> Result<Vec<u32>, AllocError>
     ensures { IfOk result (λ ks. ks.items ≡ directories file.now) }
@@ -195,7 +195,7 @@ fn push_arrays(
     push_some(out, array_range(alloc, file, r.level, TILE_BYTE_COUNTS)?)
 }
 
-/// The range of a group and the tile behind it, where the tile joins the group.
+/// Returns the range of a group and the tile after it, where the tile joins the group.
 fn joined(group: Extent, tile: Extent) -> Option<Extent>
     ensures { option_map extent_of result ≡ (if joins (extent_of group) (extent_of tile) then Some (record { first = group.first; len = group.len + tile.len }) else None) }
 {
@@ -210,7 +210,7 @@ fn joined(group: Extent, tile: Extent) -> Option<Extent>
     })
 }
 
-/// Takes the next tile after a group: the group that is open then, once those that are done are added.
+/// Takes the next tile after a group, and adds the groups that are complete. Returns the group that is open then.
 fn push_tile(
     out: &mut Vec<Extent>,
     before: Option<Extent>,
@@ -247,7 +247,7 @@ fn push_groups(
     push_some(out, group)
 }
 
-/// Adds the ranges of the window's arrays and of its groups of tiles. Whether the plain program reads its level.
+/// Adds the ranges of the window's arrays and of its groups of tiles. Returns whether the plain program reads its level.
 #[tactic(auto, unfolding(tiff_dir::specs::Query::tile_ranges))]
 fn push_window(
     alloc: Global,
@@ -283,7 +283,7 @@ fn push_geo(out: &mut Vec<Extent>, file: &[u8]) -> Result<(), AllocError>
     push_some(out, field_range(file, 0, MODEL_TRANSFORMATION))
 }
 
-/// The ranges of the file that the query needs, where the plain program reads its level.
+/// Returns the ranges of the file that the query needs, where the plain program reads its level.
 #[tactic(auto, unfolding(tiff_dir::specs::Query::needs, tiff_dir::specs::Query::needs_of_query))]
 pub fn needs(alloc: Global, file: &[u8], query: Query) -> Result<Option<Vec<Extent>>, AllocError>
     ensures ranges { IfOk result (λ o. IfSome o (λ v. extents_of v.items ≡ needs file.now query)) }
@@ -301,7 +301,7 @@ pub fn needs(alloc: Global, file: &[u8], query: Query) -> Result<Option<Vec<Exte
     Ok(Some(out))
 }
 
-/// How many blocks a range touches that ends in a file of `complete` bytes, and 0 if it doesn't.
+/// Returns how many blocks a range touches that ends in a file of `complete` bytes, and 0 for another one.
 fn blocks_inside(range: Extent, complete: u64) -> u64
     requires { complete < 2 ^ 63 }
     ensures blocks { result ≡ blocks_inside complete (extent_of range) }
@@ -314,7 +314,7 @@ fn blocks_inside(range: Extent, complete: u64) -> u64
     }
 }
 
-/// The blocks of the ranges that end in a file of `complete` bytes, where the sum has 64 bits.
+/// Returns the number of blocks of the ranges that end in a file of `complete` bytes, where the sum has 64 bits.
 fn sum_blocks(ranges: &[Extent], complete: u64) -> Option<u64>
     requires { complete < 2 ^ 63 }
     ensures { let total = sum_by (λ r. blocks_inside complete (extent_of r)) ranges.now in
@@ -327,7 +327,7 @@ fn sum_blocks(ranges: &[Extent], complete: u64) -> Option<u64>
     Some(total)
 }
 
-/// The blocks of the ranges that the query needs and that end inside the file.
+/// Returns the number of blocks of the ranges that the query needs and that end inside the file.
 #[tactic(auto, unfolding(tiff_dir::specs::Query::cost))]
 pub fn cost(alloc: Global, file: &[u8], query: Query) -> Result<Option<u64>, AllocError>
     ensures cost { IfOk result (λ o. IfSome o (λ n. n ≡ cost file.now query)) }

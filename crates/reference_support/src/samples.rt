@@ -12,7 +12,7 @@ use crate::query::tiles_along;
 use std::alloc::{AllocError, Global};
 use tiff_dir::{Codec, Compression, Order, law_one_text};
 
-/// The number of the tile that has the pixel.
+/// Returns the number of the tile that has the pixel.
 pub(crate) fn tile_at(grid: &Grid, x: u32, y: u32) -> u64
     requires { IsTrue (is_modest_grid (grid_of grid.now)) }
     ensures { result ≡ tile_at (grid_of grid.now) x y }
@@ -21,7 +21,7 @@ pub(crate) fn tile_at(grid: &Grid, x: u32, y: u32) -> u64
     u64::from(y / grid.tile_length) * across + u64::from(x / grid.tile_width)
 }
 
-/// The number of a pixel in its tile, row by row.
+/// Returns the number of a pixel in its tile, row by row.
 fn pixel_number(row: u32, column: u32, width: u32) -> usize
     requires row { row < 2 ^ 24 }
     requires column { column < 2 ^ 24 }
@@ -32,7 +32,7 @@ fn pixel_number(row: u32, column: u32, width: u32) -> usize
     row as usize * width as usize + column as usize
 }
 
-/// Which sample of its tile is sample `c` of the pixel.
+/// Returns which sample of its tile is sample `c` of the pixel.
 pub(crate) fn place_in_tile(level: &Level, x: u32, y: u32, c: u16) -> usize
     requires { IsTrue (is_modest (layout_of level.now)) }
     ensures place { result ≡ place_in_tile (layout_of level.now) x y c }
@@ -43,7 +43,7 @@ pub(crate) fn place_in_tile(level: &Level, x: u32, y: u32, c: u16) -> usize
     pixel_number(row, column, level.grid.tile_width) * usize::from(level.samples) + usize::from(c)
 }
 
-/// How many samples a tile of these sides has.
+/// Returns how many samples a tile of these sides has.
 fn sample_count(width: u32, length: u32, samples: u16) -> usize
     requires width { width < 2 ^ 24 }
     requires length { length < 2 ^ 24 }
@@ -54,7 +54,7 @@ fn sample_count(width: u32, length: u32, samples: u16) -> usize
     width as usize * length as usize * usize::from(samples)
 }
 
-/// How many bytes a row of a tile has, and the whole tile, when it is unpacked.
+/// Returns how many bytes a row of an unpacked tile has, and how many the whole tile has.
 fn row_and_size(level: &Level) -> (usize, usize)
     requires { IsTrue (is_modest (layout_of level.now)) }
     ensures row { result.0 ≡ plain_row (layout_of level.now) }
@@ -66,7 +66,8 @@ fn row_and_size(level: &Level) -> (usize, usize)
     (row, samples * bytes)
 }
 
-/// The samples of a tile whose segment this is, where it has as many as the tile.
+/// Returns the samples of a tile whose bytes in the file are `bytes`. Packed bytes have to give as many samples as the tile has, or there
+/// are none.
 pub(crate) fn plain_tile(
     alloc: Global,
     level: &Level,
@@ -91,7 +92,7 @@ pub(crate) fn plain_tile(
     }
 }
 
-/// The value of sample `p` of an unpacked tile.
+/// Returns the value of sample `p` of an unpacked tile.
 #[tactic(auto, unfolding(tiff_dir::specs::Window::sample_in))]
 pub(crate) fn sample_in(order: Order, bits: u16, plain: &[u8], p: usize) -> Option<u64>
     requires some { 8 ≤ bits }

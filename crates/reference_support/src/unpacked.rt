@@ -1,4 +1,4 @@
-//! The samples of a file, one by one or a whole level with each tile unpacked once.
+//! The samples of a file, one by one or for a whole level with each tile unpacked once.
 ghost use Rattle.std.specs.Prelude.{◌≡◌, ◌<◌, IfOk, IfSome, IfNone, IsSome, IsTrue, MatchOption, None, Some, length};
 ghost use Rattle.tiff_dir.specs.File.{order_of};
 ghost use Rattle.tiff_dir.specs.Level.{tile_total};
@@ -14,7 +14,7 @@ use crate::samples::{place_in_tile, plain_tile, sample_in, tile_at};
 use std::alloc::{AllocError, Global};
 use tiff_dir::law_one_text;
 
-/// The unpacked bytes of tile `t` of level `n`, where it is in the file and its packets fill it.
+/// Returns the unpacked bytes of tile `t` of level `n`, where it is in the file and its packets fill it.
 fn tile(
     alloc: Global,
     file: &[u8],
@@ -31,7 +31,7 @@ fn tile(
     plain_tile(alloc, level, bytes)
 }
 
-/// How many tiles the grid has.
+/// Returns how many tiles the grid has.
 fn tile_total(grid: &Grid) -> u64
     requires { IsTrue (is_modest_grid (grid_of grid.now)) }
     ensures { result ≡ tile_total (grid_of grid.now) }
@@ -39,7 +39,7 @@ fn tile_total(grid: &Grid) -> u64
     tiles_along(grid.width, grid.tile_width) * tiles_along(grid.length, grid.tile_length)
 }
 
-/// The unpacked bytes of each tile of level `n`.
+/// Returns the unpacked bytes of each tile of level `n`.
 fn tiles(
     alloc: Global,
     file: &[u8],
@@ -56,7 +56,7 @@ fn tiles(
     Ok(tiles)
 }
 
-/// Sample `c` of the pixel in column `x` and row `y` of level `n`, whose tiles these are.
+/// Returns sample `c` of the pixel in column `x` and row `y` of level `n`, which has the tiles `tiles`.
 fn sample_of(
     file: &[u8],
     n: u32,
@@ -79,7 +79,7 @@ fn sample_of(
     sample_in(order, level.bits, plain, place)
 }
 
-/// Row `y` of level `n`, whose tiles these are.
+/// Returns row `y` of level `n`, which has the tiles `tiles`.
 fn row(
     alloc: Global,
     file: &[u8],
@@ -107,8 +107,8 @@ fn row(
     Ok(Some(row))
 }
 
-/// The samples of level `n` row by row, where it is modest and its tiles are good; each tile is unpacked once. None at
-/// another level says nothing.
+/// Returns the samples of level `n` row by row, where it is modest and its tiles are good. Each tile is unpacked once. `None` for another
+/// level says nothing.
 pub fn level_samples(
     alloc: Global,
     file: &[u8],
@@ -131,8 +131,8 @@ pub fn level_samples(
     Ok(Some(rows))
 }
 
-/// Sample `c` of the pixel in column `x` and row `y` of level `n`, where its level is modest and its tile is good.
-/// None at another level says nothing.
+/// Returns sample `c` of the pixel in column `x` and row `y` of level `n`, where the level is modest and the tile is good. `None` for
+/// another level says nothing.
 pub fn sample(
     alloc: Global,
     file: &[u8],

@@ -1,4 +1,4 @@
--- What parts of lines are read as, lines that are not read, by their numbers, and what is said of a file that isn't loaded.
+-- What parts of lines are read as, which lines aren't read, by their numbers, and what is said of a file that isn't loaded.
 use Rattle.std.specs.Prelude.{◌≡◌, ℕ, ⊤, List, [], ◌∷◌, map, codes, Some, None, Result, Ok, Err}
 use Rattle.std.specs.Borrow.{Bor}
 use Rattle.scripts.specs.declared.line.LineError.{LineError}
@@ -17,11 +17,11 @@ use Rattle.world.specs.declared.event.Event.{Event}
 abbrev pub NoFile : Finds
 NoFile _ _ = ⊥
 
--- the words that are lent
+-- the words that are borrowed
 abbrev pub texts : List (Bor (List ℕ)) → List (List ℕ)
 texts words = map (λ word. word.now) words
 
--- a part of a line is read as what it is, and is no event only where it is nothing; want of memory says nothing
+-- A part of a line is read as what it is, and is no event only if it is nothing. A lack of memory says nothing.
 abbrev pub Reads : {T : Type 0} → (T → Type 0) → Result T LineError → Type 0
 Reads IsRead (Ok value) = IsRead value
 Reads {T} IsRead (Err fault.NotAnEvent) = (value : T) → ¬ (IsRead value)
@@ -37,7 +37,7 @@ abbrev pub IsWindow : Pick → List (List ℕ) → Query → Type 0
 IsWindow pick sides (Window x y w h chosen) = AreNumbers sides (x ∷ y ∷ w ∷ h ∷ []) × (chosen ≡ pick)
 IsWindow pick sides Info = ⊥
 
--- so too the words of a line, where a file may be missing
+-- the same for the words of a line, whose file may be missing
 abbrev pub ReadsWords : Finds → List (List ℕ) → Result Event LineError → Type 0
 ReadsWords finds words (Ok event) = IsEvent finds words event
 ReadsWords finds words (Err fault.NotAnEvent) = (event : Event) → ¬ (IsEvent Anything words event)
@@ -45,7 +45,7 @@ ReadsWords finds words (Err fault.CantRead) =
     (NAME PATH : List ℕ) × (words ≡ codes "publish" ∷ NAME ∷ PATH ∷ []) × finds PATH None
 ReadsWords finds words (Err fault.Memory) = ⊤
 
--- a line, too
+-- the same for a line
 abbrev pub ReadsLine : Finds → List ℕ → Result Event LineError → Type 0
 ReadsLine finds line (Ok event) = IsEventOf finds line event
 ReadsLine finds line (Err fault.NotAnEvent) = IsNoEvent line

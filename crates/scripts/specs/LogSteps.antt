@@ -1,4 +1,4 @@
--- What is appended to a line that is begun.
+-- What is appended to a line that was begun.
 use Rattle.std.specs.Prelude.{List, ◌++◌, ℕ, codes}
 use Rattle.std.specs.List.{flat_map}
 use Rattle.scripts.specs.LogText.{Words}

@@ -46,7 +46,7 @@ number_if (Some n) = decimal n ∷ []
 abbrev pub span_word : Span → List ℕ
 span_word span = decimal span.first ++ codes "-" ++ decimal span.last
 
--- the tag of If-Range, or `-` without one
+-- the ETag of If-Range, or `-` without one
 abbrev pub tag_word : Option (List ℕ) → List ℕ
 tag_word None = codes "-"
 tag_word (Some tag) = tag
@@ -60,7 +60,7 @@ abbrev pub asked_words : AnsweredRequest → Words
 asked_words asked =
     codes "asked" ∷ decimal asked.client ∷ span_word asked.span ∷ tag_word asked.tag ∷ answer_words asked.number asked.answer
 
--- the status for which an answer is ignored
+-- the status code for which an answer is ignored
 abbrev pub status_of : why.Ignored → Option ℕ
 status_of (NotUsed (Status status)) = Some status
 status_of ignored = None
@@ -104,13 +104,13 @@ outcome_words (Window window) =
 outcome_words (Info info) = codes "info" ∷ decimal (length info.sides.items) ∷ decimal (length info.geo.keys.items) ∷ []
 outcome_words (Fault fault) = codes "fault" ∷ decimal (number_of_fault fault) ∷ number_if (tag_of_fault fault)
 
--- the line of a report of client i
+-- the line of a report of client `i`
 abbrev pub report_words : ℕ → Report → Words
 report_words i report = codes "report" ∷ decimal i ∷ report.tag ∷ outcome_words report.outcome
 
 -- ---- the text
 
--- the client of an event that a report may newly stand after
+-- the client of an event after which there may be a new report
 abbrev pub client_of : Effect → Option ℕ
 client_of (Opened i) = Some i
 client_of (Forgot i) = Some i
@@ -119,7 +119,7 @@ client_of (Delivered i delivered) = Some i
 client_of (Exchanged asked delivered) = Some asked.client
 client_of effect = None
 
--- the second line of an entry, where it has a report
+-- the second line of an entry, if it has a report
 abbrev pub report_lines : Option ℕ → Option Report → List Words
 report_lines (Some i) (Some report) = report_words i report ∷ []
 report_lines client report = []

@@ -1,5 +1,5 @@
--- Scripts, as docs/SCRIPTS.md has them: numbers, the words of a line and their event, and the lines of a text. Names in capitals
--- are the words of its table.
+-- Scripts, as docs/SCRIPTS.md has them: numbers, the words of a line with their event, and the lines of a text. Names in capitals
+-- are the words of the table there.
 use Rattle.std.specs.Prelude.{◌≡◌, ℕ, ◌+◌, ◌↔◌, ◌&&◌, ⊤, Bool, true, not, if◌then◌else◌, ◌==◌, nat_eq, nat_lt, nat_le, List, [], ◌∷◌, ◌++◌, codes, length, filter, Option, Some, None, Ok}
 use Rattle.std.specs.List.{AllZip, list_all, slice_split, starts_with, ends_with}
 use Rattle.std.specs.Option.{option_map}
@@ -15,7 +15,7 @@ use Rattle.world.specs.declared.event.Event.TheVariants.{Publish, Epoch, NewClie
 
 -- ---- numbers
 
--- the number that decimal digits write, one or more, if it is at most 4,294,967,295
+-- the number of one or more decimal digits, if it is at most 4,294,967,295
 abbrev pub number : List ℕ → Option ℕ
 number word =
     if nat_lt 0 (length word) && all_ascii_digits word && nat_le (digits_value 10 word) 4294967295
@@ -32,7 +32,7 @@ cut word = if bytes_eq word (codes "-") then Some None else option_map Some (num
 
 -- ---- lines
 
--- what a source may answer at a path: the bytes of a file, or None where it can't be read
+-- what a source may answer at a path: the bytes of a file, or `None` if it can't be read
 abbrev pub Finds : Type 1
 Finds = List ℕ → Option (List ℕ) → Type 0
 
@@ -47,7 +47,7 @@ IsQuery words (Window x y w h pick) = (word N X Y W H : List ℕ) × (words ≡ 
     × IsPick word N pick × AreNumbers (X ∷ Y ∷ W ∷ H ∷ []) (x ∷ y ∷ w ∷ h ∷ [])
 IsQuery words Info = words ≡ codes "info" ∷ []
 
--- The words of a line are those of this event: the rows of the table. `finds` says what lies at a path.
+-- The words of a line are those of this event, by the rows of the table. `finds` says what there is at a path.
 abbrev pub IsEvent : Finds → List (List ℕ) → Event → Type 0
 IsEvent finds words (Publish name file) =
     (PATH : List ℕ) × (words ≡ codes "publish" ∷ name.items ∷ PATH ∷ []) × finds PATH (Some file.items)
@@ -69,7 +69,7 @@ IsEvent finds words (Check i) = (I : List ℕ) × (words ≡ codes "check" ∷ I
 abbrev pub Anything : Finds
 Anything _ _ = ⊤
 
--- a source finds what it found before
+-- a source finds exactly what it found before
 abbrev pub FindsTheSame : Finds → Finds → Type 0
 FindsTheSame old new = (path : List ℕ) (file : Option (List ℕ)) → new path file ↔ old path file
 
@@ -77,7 +77,7 @@ FindsTheSame old new = (path : List ℕ) (file : Option (List ℕ)) → new path
 abbrev pub words : List ℕ → List (List ℕ)
 words line = slice_split (λ b. b == 32) line
 
--- no word is empty: no space is doubled or stands at an end
+-- no word is empty: there are no two spaces side by side, and none stands at an end
 abbrev pub are_filled : List (List ℕ) → Bool
 are_filled words = list_all (λ word. not (length word == 0)) words
 
@@ -89,7 +89,7 @@ is_plain line = not (ends_with nat_eq line (codes "\r")) && are_filled (words li
 abbrev pub IsEventOf : Finds → List ℕ → Event → Type 0
 IsEventOf finds line event = (is_plain line ≡ true) × IsEvent finds (words line) event
 
--- a line that is no event, whatever lies at its path
+-- a line that is no event, whatever there is at its path
 abbrev pub IsNoEvent : List ℕ → Type 0
 IsNoEvent line = (event : Event) → ¬ (IsEventOf Anything line event)
 
@@ -115,7 +115,7 @@ is_read line = not (length line == 0) && not (starts_with nat_eq line (codes "#"
 abbrev pub AreEvents : Finds → List (List ℕ) → List Event → Type 0
 AreEvents finds lines events = AllZip (IsEventOf finds) (filter is_read lines) events
 
--- line `number` of a text, counted from 1, is refused for this reason, and those before it are read
+-- line `number` of a text, counted from 1, is refused for this reason, and the lines before it are read
 pub record IsFirstRefused (finds : Finds) (text : List ℕ) (number : ℕ) (IsRefused : List ℕ → Type 0) : Type 0 where
   pub before : List (List ℕ)
   pub line : List ℕ

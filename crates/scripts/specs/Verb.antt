@@ -3,7 +3,7 @@ use Rattle.std.specs.Prelude.{ℕ, List, codes}
 use Rattle.scripts.specs.declared.verb.Verb.{Verb}
 use Rattle.scripts.specs.declared.verb.Verb.TheVariants.{Epoch, Client, Open, Forget, Ask, AskFrom, Deliver, Exchange, Check}
 
--- the word that a verb is
+-- the word of a verb
 abbrev pub word_of : Verb → List ℕ
 word_of Epoch = codes "epoch"
 word_of Client = codes "client"

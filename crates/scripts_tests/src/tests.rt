@@ -14,7 +14,7 @@ use std::test::Fail;
 use tiff_dir::Memory;
 use world::{Event, Log, run, run_cut};
 
-/// The file f1, with one byte changed.
+/// Returns the file f1 with one byte changed.
 fn damaged(alloc: Global, at: usize, byte: u8) -> Result<Vec<u8>, Memory> {
     let mut file = f1(alloc)?;
     if let Some(place) = file.get_mut(at) {
@@ -23,7 +23,7 @@ fn damaged(alloc: Global, at: usize, byte: u8) -> Result<Vec<u8>, Memory> {
     Ok(file)
 }
 
-/// The file f1 with a tile of 255 bytes.
+/// Returns the file f1 with a tile of 255 bytes.
 fn damaged_twice(alloc: Global) -> Result<Vec<u8>, Memory> {
     let mut file = damaged(alloc, 114, 255)?;
     if let Some(place) = file.get_mut(115) {
@@ -32,7 +32,7 @@ fn damaged_twice(alloc: Global) -> Result<Vec<u8>, Memory> {
     Ok(file)
 }
 
-/// The file f1 without its last byte.
+/// Returns the file f1 without its last byte.
 fn shortened(alloc: Global) -> Result<Vec<u8>, Memory> {
     let mut file = f1(alloc)?;
     file.pop();
@@ -52,8 +52,7 @@ fn add_fixtures(alloc: Global, files: &mut Loaded) -> Result<(), Memory> {
     Ok(())
 }
 
-/// Adds an empty file, and f1 with a loop of directories, with compression 5, with a tile of 255 bytes and without its last
-/// byte.
+/// Adds an empty file, and f1 in four forms. These have a loop of directories, compression 5, a tile of 255 bytes, and a missing last byte.
 fn add_damaged(alloc: Global, files: &mut Loaded) -> Result<(), Memory> {
     files.add(b"empty", Vec::new(alloc))?;
     files.add(b"loop.tif", damaged(alloc, 118, 8)?)?;
@@ -63,7 +62,7 @@ fn add_damaged(alloc: Global, files: &mut Loaded) -> Result<(), Memory> {
     Ok(())
 }
 
-/// The files of the scripts.
+/// Returns the files of the scripts.
 fn files(alloc: Global) -> Result<Loaded, Memory> {
     let mut files = Loaded::new(alloc);
     add_fixtures(alloc, &mut files)?;
@@ -71,7 +70,7 @@ fn files(alloc: Global) -> Result<Loaded, Memory> {
     Ok(files)
 }
 
-/// The events of a script of these files.
+/// Returns the events of a script of these files.
 fn events(alloc: Global, text: &str) -> Result<Vec<Event>, ScriptError> {
     let Ok(mut files) = files(alloc) else {
         return Err(ScriptError::Memory);
@@ -79,10 +78,10 @@ fn events(alloc: Global, text: &str) -> Result<Vec<Event>, ScriptError> {
     script(alloc, text.as_bytes(), &mut files)
 }
 
-/// Sizes of the pieces in which answers come: the head of an answer has about 171 bytes, a block 16,384.
+/// Sizes of the pieces in which answers come. The head of an answer has about 171 bytes, and a block has 16,384.
 const PIECES: [usize; 5] = [1, 7, 171, 16_384, 100_000];
 
-/// The text of the log of a run, of answers that come whole, or in pieces of this size.
+/// Returns the text of the log of a run. Answers come whole, or in pieces of the size `piece`.
 fn text_of_run(alloc: Global, events: &[Event], piece: Option<usize>) -> Result<Vec<u8>, Memory> {
     let mut log = Log::new(alloc);
     match piece {
@@ -92,7 +91,7 @@ fn text_of_run(alloc: Global, events: &[Event], piece: Option<usize>) -> Result<
     log_text(alloc, &log)
 }
 
-/// Expects the log of a script's events, of answers that come whole, or in pieces of this size.
+/// Expects the log of a script's events. Answers come whole, or in pieces of the size `piece`.
 fn expect_log(
     rt: &(impl Abort + AllocGlobal),
     events: &[Event],
@@ -118,17 +117,17 @@ fn expect(rt: &(impl Abort + AllocGlobal), text: &str, want: &str) -> Result<(),
     Ok(())
 }
 
-/// The events of a script, and the lines that the log has of each.
+/// A row has an event of a script, and its lines in the log.
 type Steps = &'static [(&'static str, &'static str)];
 
-/// Puts a line behind a text.
+/// Appends a line to a text.
 fn push_line(text: &mut String, line: &str) -> Result<(), Memory> {
     text.push_str(line)?;
     text.push('\n')?;
     Ok(())
 }
 
-/// The text of a script, and of its log.
+/// Returns the text of a script, and that of its log.
 fn texts_of(alloc: Global, steps: Steps) -> Result<(String, String), Memory> {
     let mut script = String::new(alloc);
     let mut log = String::new(alloc);
@@ -145,7 +144,7 @@ fn expect_steps(rt: &(impl Abort + AllocGlobal), steps: Steps) -> Result<(), Fai
     expect(rt, script.as_str(), log.as_str())
 }
 
-/// The texts where this file is published as `a` in epoch 1 before, and client 0 of 66 blocks is made.
+/// Returns the two texts with a beginning: this file is published as `a` in epoch 1, and client 0 of 66 blocks is made.
 fn texts_after(alloc: Global, file: &str, steps: Steps) -> Result<(String, String), Memory> {
     let (script, log) = texts_of(alloc, steps)?;
     let script = format!(in alloc;
@@ -156,7 +155,7 @@ fn texts_after(alloc: Global, file: &str, steps: Steps) -> Result<(String, Strin
     Ok((script, log))
 }
 
-/// Expects the log of a script where this file is published and a client made before.
+/// Expects the log of a script with that beginning: this file is published, and a client is made.
 fn expect_after(rt: &(impl Abort + AllocGlobal), file: &str, steps: Steps) -> Result<(), Fail> {
     let (script, log) = texts_after(rt.alloc(), file, steps)?;
     expect(rt, script.as_str(), log.as_str())

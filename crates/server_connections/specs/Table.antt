@@ -12,38 +12,38 @@ Table = List (ℕ × Timed)
 abbrev pub timed_at : ℕ → Table → Option Timed
 timed_at k table = lookup (nat_eq k) table
 
--- every connection but k is as it was
+-- each connection except `k` is as it was
 abbrev pub OthersStay : ℕ → Table → Table → Type 0
 OthersStay k old new = (other : ℕ) → other ≢ k → timed_at other new ≡ timed_at other old
 
--- connection k becomes another, if there is one, and the others stay
+-- connection `k` is changed by `f`, if there is one, and the others stay
 pub record Changes (k : ℕ) (f : Timed → Timed) (old new : Table) : Type 0 where
   pub here : timed_at k new ≡ option_map f (timed_at k old)
   pub others : OthersStay k old new
 
--- k stands in the table as this one, and the others stay
+-- the table has this under `k`, and the others stay
 pub record Becomes (k : ℕ) (timed : Option Timed) (old new : Table) : Type 0 where
   pub here : timed_at k new ≡ timed
   pub others : OthersStay k old new
 
--- it is tried to write, and bytes of what waits are written, which is progress where there are any
+-- A write was tried, and `n` bytes of what waits were written. If there were any, that is progress.
 abbrev pub timed_after_write : ℕ → ℕ → Timed → Timed
 timed_after_write n now p =
     record { connection = after_write n p.connection; progress = if n == 0 then p.progress else now; tried = now }
 
--- connection k goes on, if there is one; with a status its next message is answered
+-- connection `k` goes on, if there is one; if there is a status code, its next message is answered
 abbrev pub GoesOnAt : ServiceState → ℕ → ℕ → Option Timed → Table → Table → Option ℕ → Type 0
 GoesOnAt service k now None old new status = (status ≡ None) × (new ≡ old)
 GoesOnAt service k now (Some p) old new status =
     (s : Status) × GoesOnBy service p.connection s status
     × Becomes k (Some (record { connection = s; progress = if is_some status then now else p.progress; tried = p.tried })) old new
 
--- the connections stand as they came, the newest first: their numbers fall, from below this one on
+-- the connections are in the order in which they came, the newest first: their numbers fall, and are below `n`
 abbrev pub AreFalling : ℕ → Table → Type 0
 AreFalling n [] = ⊤
 AreFalling n (e ∷ table) = (e.0 < n) × AreFalling e.0 table
 
--- that they fall is one fact, however it is shown
+-- there is only one proof that they fall
 pub falling_once : (n : ℕ) (table : Table) → IsProp (AreFalling n table)
 falling_once n [] p q = λ i. p
 falling_once n (e ∷ table) p q = λ i. (le_prop p.0 q.0 i, falling_once e.0 table p.1 q.1 i)

@@ -20,12 +20,12 @@ settings files = map (λ f. (f.name.now, f.path.now, verify_of f)) files
 abbrev pub IsServed : ServerState → List ℕ → Type 0
 IsServed s name = IsSome (published name s.catalogue)
 
--- What a file gave that was opened was published under the name with the next tag of the epoch, and nothing else changed. `gives` says
--- which bytes a file gives, where they are known.
+-- What a file gave that was opened was published under the name, with the next ETag of the epoch. Nothing else changed. `gives` says
+-- which bytes a file gives, if they are known.
 abbrev pub IsPublishedOf : {F : Type 0} (gives : F → Option (List ℕ)) → List ℕ → ServerState → ServerState → Type 0
 IsPublishedOf gives name s t = ((tag : List ℕ) × IsPublished name s t tag) × IsOfFile gives name t
 
--- So it was under each of the names, in their order, each once, and nothing else changed.
+-- This was done for each of the names, in their order, once each, and nothing else changed.
 abbrev pub ArePublished : {F : Type 0} (gives : F → Option (List ℕ)) → List (List ℕ) → ServerState → ServerState → Type 0
 ArePublished gives [] s t = t ≡ s
 ArePublished gives (name ∷ names) s t = (mid : ServerState) × IsPublishedOf gives name s mid × ArePublished gives names mid t
@@ -34,22 +34,22 @@ ArePublished gives (name ∷ names) s t = (mid : ServerState) × IsPublishedOf g
 abbrev pub MayBePublished : {F : Type 0} (gives : F → Option (List ℕ)) → List ℕ → ServerState → ServerState → Type 0
 MayBePublished gives name s t = (t ≡ s) ⊎ (IsPublishedOf gives name s t × HasOther name s t)
 
--- So it is with each of the names, in their order, and nothing else changed; of several that are the same with the last alone.
+-- This is so for each of the names, in their order, and nothing else changed. Of several equal names it is so only for the last.
 abbrev pub ArePublishedAnew : {F : Type 0} (gives : F → Option (List ℕ)) → List (List ℕ) → ServerState → ServerState → Type 0
 ArePublishedAnew gives [] s t = t ≡ s
 ArePublishedAnew gives (name ∷ names) s t =
     (mid : ServerState) × MayBePublished gives name s mid × (Contains names name → mid ≡ s) × ArePublishedAnew gives names mid t
 
--- So it was as often as the files were looked at, once after the other.
+-- This was done as often as the files were looked at, once after the other.
 pub data ArePublishedAgain {F : Type 0} (gives : F → Option (List ℕ)) (names : List (List ℕ)) (s : ServerState) : ServerState → Type 0 where
   never : ArePublishedAgain gives names s s
   again : (t u : ServerState) → ArePublishedAgain gives names s t → ArePublishedAnew gives names t u → ArePublishedAgain gives names s u
 
--- under every name but this one the server has what it had
+-- under each other name the server has what it had
 abbrev pub KeepsOthers : List ℕ → ServerState → ServerState → Type 0
 KeepsOthers name old new = (other : List ℕ) → other ≢ name → published other new.catalogue ≡ published other old.catalogue
 
--- under every name that is none of these the server has what it had
+-- under each name that is none of these the server has what it had
 abbrev pub KeepsOthersThan : List (List ℕ) → ServerState → ServerState → Type 0
 KeepsOthersThan names old new =
     (other : List ℕ) → All (λ name. other ≢ name) names → published other new.catalogue ≡ published other old.catalogue

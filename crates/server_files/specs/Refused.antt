@@ -1,4 +1,4 @@
--- The error of a server where no connection can be accepted any more.
+-- The error of a server when no connection can be accepted any more.
 use Rattle.std.specs.Prelude.{⊤}
 use Rattle.server_sockets.specs.declared.refusal.AcceptError.{AcceptError}
 use Rattle.server_sockets.specs.declared.refusal.AcceptError.TheVariants.{Accept, Ask}
@@ -10,7 +10,7 @@ abbrev pub error_of : AcceptError → ServeFilesError
 error_of (Accept error) = CantAccept error
 error_of (Ask error) = CantWait error
 
--- it is of sockets: none listens, no connection is accepted, or no wait for one is possible
+-- the error is of sockets: none listens, no connection is accepted, or no wait for one is possible
 abbrev pub IsOfSockets : ServeFilesError → Type 0
 IsOfSockets (CantListen error) = ⊤
 IsOfSockets (CantAccept error) = ⊤

@@ -11,14 +11,14 @@ use Rattle.server_files.specs.Publishing.{ArePublishedAnew}
 use Rattle.server_files.specs.declared.error.ServeFilesError.{ServeFilesError}
 use Rattle.server_files.specs.declared.error.ServeFilesError.TheVariants.{CantListen}
 
--- There are as many slots, and the limits are the same. If no more connections were accepted before than they allow, no more are after.
+-- The number of slots and the limits stay. If no more connections were accepted before than the limits allow, no more are after.
 pub record KeepsLimits (old new : Serving) : Type 0 where
   pub limits : limits_of new ≡ limits_of old
   pub room : slot_count new ≡ slot_count old
   pub few : accepted_of old ≤ (limits_of old).connections → accepted_of new ≤ (limits_of old).connections
 
--- In a round each connection went on by what was published before it, with what is added, or it started. Files were published anew only
--- where a connection was accepted.
+-- In a round each connection went on, or it started. It went on by what was published before the round, with what is added. Files were
+-- published anew only if a connection was accepted.
 pub record IsRound {F : Type 0} (gives : F → Option (List ℕ)) (names : List (List ℕ)) (added : AddedState) (s : ServerState) (old : Serving) (t : ServerState)
     (new : Serving) : Type 0 where
   pub now : ℕ
@@ -26,7 +26,7 @@ pub record IsRound {F : Type 0} (gives : F → Option (List ℕ)) (names : List 
   pub anew : ArePublishedAnew gives names s t
   pub idle : accepted_of new ≡ accepted_of old → t ≡ s
 
--- Round followed round, each with the same additions and within the same limits. Between two of them no connection changed.
+-- Rounds follow each other, with the same additions and within the same limits. Between two of them no connection changed.
 pub data WentRound {F : Type 0} (gives : F → Option (List ℕ)) (names : List (List ℕ)) (added : AddedState) (s : ServerState) (first : Serving) :
     ServerState → Serving → Type 0 where
   begun : WentRound gives names added s first s first
@@ -46,7 +46,8 @@ pub record IsNewWithin (allowed : Limits) (s : Serving) : Type 0 where
 abbrev pub IsOver : Serving → Type 0
 IsOver s = ((limits_of s).connections ≤ accepted_of s) × (slots_of s ≡ [])
 
--- A new server with these limits went round so, and accepted no more connections than they allow. It ended well only when it was over.
+-- A new server with these limits went through such rounds, and accepted no more connections than they allow. It ended well only when it
+-- was over.
 pub record ServedWithin {F A : Type 0} (gives : F → Option (List ℕ)) (names : List (List ℕ)) (added : AddedState) (limits : Limits) (s t : ServerState)
     (result : Result A ServeFilesError) : Type 0 where
   pub first : Serving
@@ -56,7 +57,7 @@ pub record ServedWithin {F A : Type 0} (gives : F → Option (List ℕ)) (names 
   pub few : accepted_of last ≤ limits.connections
   pub over : OnOk result (IsOver last)
 
--- the address can't be listened at
+-- the error is that the address can't be listened at
 abbrev pub IsOfListening : ServeFilesError → Type 0
 IsOfListening (CantListen error) = ⊤
 IsOfListening why = ⊥

@@ -9,11 +9,11 @@ use Rattle.server_sockets.specs.Slots.{drains_of, limits_of, ready_of, slots_of}
 use Rattle.server_sockets.specs.declared.drain.Drain.{Drain}
 use Rattle.server_sockets.specs.declared.serving.Serving.{Serving}
 
--- each connection is as it was, with its slot or without one, unless it is one of these
+-- each connection for which `P` doesn't hold is as it was, with its slot or without one
 abbrev pub ChangesOnly : (ℕ → Type 0) → Table → Table → Type 0
 ChangesOnly P old new = (k : ℕ) → P k ⊎ (timed_at k new ≡ timed_at k old)
 
--- each drain was there before, or is of one of these connections
+-- each drain was there before, or is of a connection for which `P` holds
 abbrev pub DrainsOnly : (ℕ → Type 0) → List Drain → List Drain → Type 0
 DrainsOnly P old new = (drain : Drain) → Contains new drain → Contains old drain ⊎ P drain.number
 
@@ -21,11 +21,11 @@ DrainsOnly P old new = (drain : Drain) → Contains new drain → Contains old d
 abbrev pub BeginsWith : List ℕ → List ℕ → Type 0
 BeginsWith queue before = (more : List ℕ) × (queue ≡ before ++ more)
 
--- among these drains one is of connection k, and has ended by this moment
+-- one of these drains is of connection `k`, and has ended by this moment
 abbrev pub HasDrained : ℕ → List Drain → ℕ → Type 0
 HasDrained now drains k = Any (λ drain. (drain.number ≡ k) × (drain.ends ≤ now)) drains
 
--- connection k keeps bytes of a replaced file, has made no progress for the patience, and its socket takes none
+-- connection `k` keeps bytes of a replaced file, has made no progress for the patience, and its socket takes none
 abbrev pub IsOverdueAt : Catalogue → ℕ → ℕ → Table → ℕ → Type 0
 IsOverdueAt catalogue now patience table k = IsSomeAnd (timed_at k table) (λ p. is_overdue catalogue now patience p ≡ true)
 

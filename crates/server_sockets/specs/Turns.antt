@@ -10,30 +10,30 @@ use Rattle.server_connections.specs.declared.timed.Timed.{Timed}
 use Rattle.server_connections.specs.Table.{Table, OthersStay, timed_at}
 use Rattle.server_connections.specs.Yielding.{IsUntried, Yields}
 
--- every connection but k is as it was, k has its slot or none as before, there may be as many, and the next number is the same
+-- Each connection except `k` is as it was, and `k` has its slot or none as before. The number of slots and the next number stay.
 pub record KeepsSlots (k : ℕ) (old new : Connections) : Type 0 where
   pub here : is_some (timed_at k new.table.entries) ≡ is_some (timed_at k old.table.entries)
   pub others : OthersStay k old.table.entries new.table.entries
   pub cap : new.table.cap ≡ old.table.cap
   pub next : new.next ≡ old.next
 
--- connection k has its slot, and starts at this moment: nothing came on it, and its progress is counted from now on
+-- connection `k` has its slot, and starts at this moment: nothing came on it, and its progress is counted from now on
 abbrev pub HasStartedAt : ℕ → ℕ → Table → Type 0
 HasStartedAt k now table = timed_at k table ≡ Some (record { connection = start; progress = now; tried = now })
 
--- all answers of connection k are written, and no more come; or there is no such connection
+-- all answers of connection `k` are written, and no more come; or there is no such connection
 abbrev pub HasEndedAt : ℕ → Table → Type 0
 HasEndedAt k table = IfSome (timed_at k table) (λ p. (ended : Ended) × EndsBy p.connection (Some ended))
 
--- there is a connection k, and not all its answers are written, or more may come
+-- there is a connection `k`, and not all its answers are written, or more may come
 abbrev pub IsOpenAt : ℕ → Table → Type 0
 IsOpenAt k table = IsSomeAnd (timed_at k table) (λ p. EndsBy p.connection None)
 
--- nothing more may come on connection k, or there is no such connection
+-- nothing more may come on connection `k`, or there is no such connection
 abbrev pub IsDrainedAt : ℕ → Table → Type 0
 IsDrainedAt k table = IfSome (timed_at k table) (λ p. IsTrue (is_drained p.connection))
 
--- at this moment it was tried to write to connection k, if there is one
+-- at this moment a write to connection `k` was tried, if there is one
 abbrev pub IsTriedAt : ℕ → ℕ → Table → Type 0
 IsTriedAt now k table = IfSome (timed_at k table) (λ p. p.tried ≡ now)
 
@@ -42,21 +42,21 @@ abbrev pub IsAtRest : ℕ → Timed → Type 0
 IsAtRest now p =
     ((p.connection.waiting ≢ []) × (p.tried ≡ now)) ⊎ ((p.connection.waiting ≡ []) × IsUnfinished p.connection.held)
 
--- there is a connection k, and it is so
+-- there is a connection `k`, and it is at rest
 abbrev pub RestsAt : ℕ → ℕ → Table → Type 0
 RestsAt now k table = IsSomeAnd (timed_at k table) (IsAtRest now)
 
--- of those whose socket is to be tried at this moment, the one that was tried the longest ago is tried, or has lost its slot
+-- Of the sockets that are to be tried at this moment, one was tried the longest ago. It is tried, or its connection has lost its slot.
 abbrev pub TriesOne : ℕ → ℕ → Table → Table → Type 0
 TriesOne now patience old new =
     (found : Option ℕ) × IsUntried now patience old found × IfSome found (λ k. IsTriedAt now k new)
 
--- at a moment a connection whose slot a newcomer takes is taken away, and no other
+-- the connection that loses its slot to a new one at this moment is taken away, and no other
 abbrev pub GivesSlot : ℕ → ℕ → Table → Table → Type 0
 GivesSlot now patience old new =
     (k : ℕ) × Yields now patience old (Some k) × (new ≡ remove_entry (nat_eq k) old)
 
--- a connection has a socket exactly as long as it has a slot, and it is the one of its number
+-- each connection has a socket exactly as long as it has a slot, and it is the socket of its number
 pub record HaveSockets {ConnectionSocket S : Type 0} (number_of : ConnectionSocket → ℕ) (sockets : HashMap ℕ ConnectionSocket S) (table : Table) : Type 0 where
   pub paired : (k : ℕ) → is_some (get nat_eq sockets k) ≡ is_some (timed_at k table)
   pub own : (k : ℕ) (socket : ConnectionSocket) → get nat_eq sockets k ≡ Some socket → number_of socket ≡ k

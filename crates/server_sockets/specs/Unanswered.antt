@@ -4,15 +4,15 @@ use Rattle.std.specs.Option.{option_map}
 use Rattle.http_range.specs.Stream.{IsFirstMessage, IsUnfinished}
 use Rattle.server_sockets.specs.declared.answer_log.UnansweredInput.{UnansweredInput}
 
--- all of them, or nothing where memory for some of them was short
+-- all of these bytes, or `None` if memory ran out for some of them
 abbrev pub input_of : UnansweredInput → Option (List ℕ)
 input_of u = if u.is_kept then Some u.bytes.items else None
 
--- These bytes came after those that were there. Or memory for them was short, now or before.
+-- These bytes came after those that were there. Or memory ran out for them, now or before.
 abbrev pub Keeps : List ℕ → (old new : UnansweredInput) → Type 0
 Keeps bytes old new = (input_of new ≡ option_map (λ before. before ++ bytes) (input_of old)) ⊎ (input_of new ≡ None)
 
--- It is the first message of the bytes that are there. Or none of them is whole, or not all bytes are there.
+-- The message is the first one of the bytes that are there. Or none of them is whole, or not all bytes are there.
 abbrev pub IsNext : UnansweredInput → Option (List ℕ) → Type 0
 IsNext u (Some message) = (bytes : List ℕ) × (input_of u ≡ Some bytes) × IsFirstMessage bytes message
 IsNext u None = IfSome (input_of u) IsUnfinished

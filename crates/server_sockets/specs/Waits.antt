@@ -10,6 +10,6 @@ use Rattle.server_sockets.specs.declared.open_connections.OpenConnections.{OpenC
 abbrev pub sockets_of : List Event → List ℕ
 sockets_of events = map (λ event. (event_token event).0) events
 
--- Connection k is in the queue, or was marked as queued before, or has no slot.
+-- Connection `k` is in the queue, was marked as queued before, or has no slot.
 abbrev pub IsQueued : ℕ → List ℕ → OpenConnections → OpenConnections → Type 0
 IsQueued k queue old new = Contains queue k ⊎ (IsReadyAt k old ⊎ (timed_at k new.connections.table.entries ≡ None))

@@ -1,4 +1,4 @@
-//! Tests over sockets of one process: a client and a server, a connection that is kept, and requests that are sent early.
+//! Tests over sockets of one process: a client and a server, a kept connection, and requests that are sent early.
 #![tactic(auto)]
 
 #[cfg(test)]

@@ -1,4 +1,4 @@
--- Which pixels of a level a rectangle of the file's coordinates meets, in doubles, each result rounded (IEEE 754).
+-- Which pixels of a level a rectangle in the file's coordinates meets, in doubles, each result rounded (IEEE 754).
 use Rattle.std.specs.Prelude.{◌≡◌, ◌≤◌, ◌+◌, ◌-◌, ◌&&◌, ℕ, Bool, nat_lt, min, if◌then◌else◌, slice_get, Option, Some, None, Result, Ok, Err}
 use Rattle.std.specs.Int.{w32}
 use Rattle.std.specs.Float.{float_is_finite, float_to_unsigned, floor, ceil}
@@ -23,15 +23,15 @@ use Rattle.text_description.specs.Placement.{of_level, placement_of}
 abbrev pub pixels_to : (origin step place : Float) → Float
 pixels_to origin step place = div binary64 (sub binary64 place origin) step
 
--- The first pixel that an interval meets which begins here. A place by less than SNAP before the edge of a pixel counts as that edge.
+-- The first pixel that an interval meets which begins at `low`. A place less than `SNAP` before the edge of a pixel counts as that edge.
 abbrev pub first_pixel : (low : Float) → Float
 first_pixel low = floor binary64 (add binary64 low SNAP)
 
--- The pixel after the last one of an interval that ends here: an interval meets at least its first pixel.
+-- The pixel after the last one of an interval that ends at `high`. An interval meets at least its first pixel.
 abbrev pub end_pixel : (first high : Float) → Float
 end_pixel first high = let least = add binary64 first ONE in let end = ceil binary64 (sub binary64 high SNAP) in if le least end then end else least
 
--- What is left of the pixels from the first to before the end in an image of so many: the first one, and how many.
+-- What is left of the pixels from `first` up to `end` in an image of `count` pixels: the first one, and how many.
 abbrev pub cut : (count first end : ℕ) → Option (ℕ × ℕ)
 cut count first end = if nat_lt first (min end count) then Some (first, min end count - first) else None
 
@@ -45,7 +45,7 @@ pixels_between count a b = if le a b then pixels_met count a b else pixels_met c
 
 -- ---- a rectangle
 
--- a step to the next pixel that can be divided by
+-- a step to the next pixel, which can be a divisor
 abbrev pub is_step : Float → Bool
 is_step step = float_is_finite step && ne step NOTHING
 
@@ -63,11 +63,11 @@ abbrev pub window_met : (columns rows : Option (ℕ × ℕ)) → (level : ℕ) �
 window_met (Some columns) (Some rows) level = Ok (Window columns.0 rows.0 columns.1 rows.1 (Level level))
 window_met columns rows level = Err Outside
 
--- in a level of these sides that is placed so
+-- the window in a level of these sides, with this placement
 abbrev pub met_in : Placement → (sides : ℕ × ℕ) → Bounds → (level : ℕ) → Result Query NoPixels
 met_in p sides b level = if is_upright p then window_met (columns_met p b sides.0) (rows_met p b sides.1) level else Err Turned
 
--- In a level that isn't there a window of one pixel stands for it, which isn't there either.
+-- For a level that isn't there a window of one pixel stands, which isn't there either.
 abbrev pub met_by : Option Placement → (whole sides : Option (ℕ × ℕ)) → Bounds → (level : ℕ) → Result Query NoPixels
 met_by None whole sides b level = Err NotPlaced
 met_by (Some p) (Some whole) (Some sides) b level = met_in (of_level p whole sides) sides b level
@@ -83,16 +83,16 @@ window_covering i b level = met_by (placement_by i) (slice_get i.sides.items 0) 
 
 -- ---- what is true of each such window
 
--- it is one of this level
+-- the window is one of this level
 abbrev pub IsOfLevel : (level : ℕ) → Query → Type 0
 IsOfLevel level (Window x y w h pick) = pick ≡ Level level
 IsOfLevel level AnInfo = ⊥
 
--- there are pixels from the first on, and they end in an image of so many
+-- there are pixels from the first on, and they end within an image of `count` pixels
 abbrev pub IsWithin : (count : ℕ) → ℕ × ℕ → Type 0
 IsWithin count met = (1 ≤ met.1) × (met.0 + met.1 ≤ count)
 
--- it has pixels, and none past these sides
+-- the window has pixels, and none past these sides
 abbrev pub IsInside : (sides : ℕ × ℕ) → Query → Type 0
 IsInside sides (Window x y w h pick) = IsWithin sides.0 (x, w) × IsWithin sides.1 (y, h)
 IsInside sides AnInfo = ⊥

@@ -29,7 +29,7 @@ abbrev pub is_point : Option RasterType → Bool
 is_point (Some Point) = true
 is_point _ = false
 
--- The description has this tag and length, the sides of the first level, what the keys say, and where columns, rows and corners lie.
+-- The description has this ETag and length, the sides of the first level, what the keys say, and where columns, rows and corners lie.
 pub record Says (tag : List ℕ) (length : Option ℕ) (info : Info) (d : Description) : Type 0 where
   pub tag_is : cow_str_bytes d.tag ≡ utf8_lossy tag
   pub length_is : length ≡ Some d.length
@@ -40,22 +40,22 @@ pub record Says (tag : List ℕ) (length : Option ℕ) (info : Info) (d : Descri
   pub transform_is : d.geo_transform ≡ option_map geo_transform_of d.placement
   pub corners_are : d.corner_coordinates ≡ corners_by d.placement d.size
 
--- it is a description of what Info tells
+-- it is a description of what Info says
 abbrev pub SaysOf : List ℕ → Option ℕ → Outcome → Description → Type 0
 SaysOf tag length (outcome.Info info) d = Says tag length info d
 SaysOf tag length (outcome.Window window) d = ⊥
 SaysOf tag length (outcome.Fault fault) d = ⊥
 
--- the description is of what the client's report of Info tells
+-- the description is of what the client's report of Info says
 abbrev pub Describes : ClientState → Description → Type 0
 Describes c d = IsSomeAnd (report_of c) (λ report. SaysOf report.tag (length_of c) report.outcome d)
 
--- The client has these levels: once it knows all directories, those of the file, and none before.
+-- The client has these levels: those of the file once it knows all directories, and none before.
 pub record HasLevels (c : ClientState) (levels : Option (List Level)) : Type 0 where
   pub known : MatchOption levels (¬ AreDirectoriesKnown c) (λ _. AreDirectoriesKnown c)
   pub of_file : (f : List ℕ) → Knows f c → IfSome levels (AreLevels f)
 
--- The facts are a level's. If the bytes of its tiles are counted, their number is the sum of the level's TileByteCounts in the file.
+-- The facts are the level's. If the bytes of its tiles are counted, their number is the sum of the level's TileByteCounts in the file.
 pub record IsFactsBy (c : ClientState) (level : Level) (facts : LevelFacts) : Type 0 where
   pub seen : IsFactsOf level facts
   pub bytes : IfSome facts.bytes (λ n. (f : List ℕ) → Knows f c
@@ -69,16 +69,16 @@ AreLevelsBy c facts = (levels : Option (List Level)) × HasLevels c levels × Al
 abbrev pub HasNoData : ClientState → List ℕ → Type 0
 HasNoData c text = (field : List ℕ) × (text ≡ utf8_lossy field) × ((f : List ℕ) → Knows f c → IsNoDataText f field)
 
--- the file has so many transparency masks
+-- the file has `n` transparency masks
 abbrev pub HasMasks : ClientState → ℕ → Type 0
 HasMasks c n = (f : List ℕ) → Knows f c → n ≡ length (mask_directories f)
 
--- no report of Info
+-- the outcome is no Info
 abbrev pub IsNoInfo : Outcome → Type 0
 IsNoInfo (outcome.Info info) = ⊥
 IsNoInfo (outcome.Window window) = ⊤
 IsNoInfo (outcome.Fault fault) = ⊤
 
--- no report of Info stands
+-- the client has no report of Info
 abbrev pub HasNoInfo : ClientState → Type 0
 HasNoInfo c = (report : Report) → report_of c ≡ Some report → IsNoInfo report.outcome

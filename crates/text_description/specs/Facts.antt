@@ -18,11 +18,11 @@ use Rattle.text_description.specs.declared.facts.RasterType.TheVariants.{Area, P
 
 -- ---- levels
 
--- GDAL's name of the type of a sample of so many bits
+-- GDAL's name of the type of a sample of `bits` bits
 abbrev pub type_name : ℕ → List ℕ
 type_name bits = if bits == 8 then codes "Byte" else codes "UInt16"
 
--- The standard's name of 262: a level has one sample to a pixel where it is 1, and three where it is 2 (TIFF 6.0, section 8).
+-- The standard's name of a value of field 262. A level has one sample to a pixel if it is 1, and three if it is 2 (TIFF 6.0, section 8).
 abbrev pub photometric_name : ℕ → List ℕ
 photometric_name samples = if samples == 1 then codes "BlackIsZero" else codes "RGB"
 
@@ -45,7 +45,7 @@ pub record IsFactsOf (level : Level) (facts : LevelFacts) : Type 0 where
 
 -- ---- keys
 
--- the value of the first key of this number
+-- the value of the first key with this number
 abbrev pub value_of : ℕ → List Key → Option KeyValue
 value_of id keys = option_map (λ key. key.value) (find (λ key. key.id == id) keys)
 
@@ -87,28 +87,28 @@ text_in (Ascii bytes) = Some (named_in (before_first is_end bytes.items))
 abbrev pub text_of : ℕ → List Key → Option (List ℕ)
 text_of id keys = option_and_then text_in (value_of id keys)
 
--- 0 is undefined and 32767 user-defined, and neither numbers a system (requirements of ProjectedCRSGeoKey and GeodeticCRSGeoKey)
+-- 0 is undefined and 32767 user-defined: neither numbers a system (requirements of ProjectedCRSGeoKey and GeodeticCRSGeoKey)
 abbrev pub numbered : ℕ → Option ℕ
 numbered n = if (n == 0) || (n == 32767) then None else Some n
 
--- by ProjectedCRSGeoKey, and by GeodeticCRSGeoKey only where that isn't there
+-- the number in ProjectedCRSGeoKey, or in GeodeticCRSGeoKey if the first isn't there
 abbrev pub system_number : List Key → Option ℕ
 system_number keys = option_and_then numbered (option_and_then number_in (option_or (value_of 3072 keys) (value_of 2048 keys)))
 
--- beside the value of ProjectedCRSGeoKey a text names the base of the system, and not the system
+-- if ProjectedCRSGeoKey has a value, the text names the base of the system, and not the system
 abbrev pub unless_projected : Option KeyValue → Option (List ℕ) → Option (List ℕ)
 unless_projected None text = text
 unless_projected (Some projected) text = None
 
--- GeodeticCitationGeoKey, where it names the system
+-- GeodeticCitationGeoKey, if it names the system
 abbrev pub geodetic_citation : List Key → Option (List ℕ)
 geodetic_citation keys = unless_projected (value_of 3072 keys) (text_of 2049 keys)
 
--- ProjectedCitationGeoKey, else GeodeticCitationGeoKey where it names the system, and else GTCitationGeoKey
+-- ProjectedCitationGeoKey; or else GeodeticCitationGeoKey, if it names the system; or else GTCitationGeoKey
 abbrev pub citation : List Key → Option (List ℕ)
 citation keys = option_or (text_of 3073 keys) (option_or (geodetic_citation keys) (text_of 1026 keys))
 
--- The number and the text of the coordinate system, of which what isn't UTF-8 is U+FFFD; no system where no key has either.
+-- The number and the text of the coordinate system, with U+FFFD for what isn't UTF-8. There is no system if no key has either.
 abbrev pub IsSystemBy : List Key → Option CoordinateSystem → Type 0
 IsSystemBy keys None = (system_number keys ≡ None) × (citation keys ≡ None)
 IsSystemBy keys (Some system) = (IsSome system.number ⊎ IsSome system.name) × (system.number ≡ system_number keys)

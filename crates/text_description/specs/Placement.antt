@@ -21,7 +21,7 @@ up_of p column row = add binary64 (add binary64 p.top (mul binary64 p.across.1 c
 abbrev pub place_of : Placement → (column row : Float) → Float × Float
 place_of p column row = (right_of p column row, up_of p column row)
 
--- the corners of so many columns and rows, and their middle
+-- the corners of these columns and rows, and their middle
 abbrev pub corners_of : Placement → (columns rows : Float) → Corners
 corners_of p columns rows = record {
   upper_left = place_of p NOTHING NOTHING;
@@ -35,7 +35,7 @@ corners_of p columns rows = record {
 abbrev pub corners_at : Placement → (size : ℕ × ℕ) → Corners
 corners_at p size = corners_of p (of_int binary64 (pos size.0)) (of_int binary64 (pos size.1))
 
--- the corners, where both the placement and the size are known
+-- the corners, if both the placement and the size are known
 abbrev pub corners_by : Option Placement → (size : Option (ℕ × ℕ)) → Option Corners
 corners_by placement size = option_and_then (λ p. option_map (corners_at p) size) placement
 
@@ -43,7 +43,7 @@ corners_by placement size = option_and_then (λ p. option_map (corners_at p) siz
 abbrev pub geo_transform_of : Placement → List Float
 geo_transform_of p = p.left ∷ p.across.0 ∷ p.down.0 ∷ p.top ∷ p.across.1 ∷ p.down.1 ∷ []
 
--- The place of a level's columns and rows: each step is longer by the ratio of the first level's columns or rows, `whole`, to the level's own.
+-- The placement of a level. Each step is longer by a ratio: the columns or rows of the first level, `whole`, to those of the level itself.
 abbrev pub ratio : (whole part : ℕ) → Float
 ratio whole part = div binary64 (of_int binary64 (pos whole)) (of_int binary64 (pos part))
 
@@ -55,7 +55,7 @@ of_level p whole part = record p { across = longer p.across (ratio whole.0 part.
 
 -- ---- what the fields say
 
--- the double at a place of a field, which has each with its most significant byte first
+-- the double at a place of a field, whose items have the most significant byte first
 abbrev pub double_at : List (List ℕ) → ℕ → Option Float
 double_at items place = option_map (λ item. from_bits binary64 (from_be_bytes w64 item)) (slice_get items place)
 
@@ -89,7 +89,7 @@ abbrev pub scaled : (scale tiepoint : List (List ℕ)) → Option Placement
 scaled s t = if length t == 6 then of_six by_sides (double_at s 0) (double_at s 1) (double_at t 0) (double_at t 1) (double_at t 3) (double_at t 4)
     else None
 
--- by the scale and one tiepoint, where both fields are there, and else by the transformation
+-- by the scale and one tiepoint if both fields are there, and else by the transformation
 abbrev pub said_by : (scale tiepoints transformation : Option (List (List ℕ))) → Option Placement
 said_by (Some scale) (Some tiepoints) m = scaled scale tiepoints
 said_by s t (Some m) = transformed m
@@ -98,7 +98,7 @@ said_by s t None = None
 abbrev pub said_of : Info → Option Placement
 said_of info = said_by (option_map (λ v. v.items) info.scale) (option_map (λ v. v.items) info.tiepoints) (option_map (λ v. v.items) info.transformation)
 
--- Where a pixel is a point, what is said is the middle of the first pixel, and its corner lies half a pixel before it.
+-- If a pixel is a point, the fields place the middle of the first pixel, and its corner lies half a pixel before it.
 abbrev pub from_corner : (is_point : Bool) → Placement → Placement
 from_corner false p = p
 from_corner true p = record p { left = right_of p HALF_BEFORE HALF_BEFORE; top = up_of p HALF_BEFORE HALF_BEFORE }

@@ -19,7 +19,7 @@ pub record IsLine (P : List ℕ → Type 0) (text : List ℕ) : Type 0 where
 abbrev pub is_visible : ℕ → Bool
 is_visible byte = nat_le 0x21 byte && nat_le byte 0x7E
 
--- The first line of a text names this tag as it is, if all its bytes are visible characters of ASCII. Else it names some text.
+-- The first line of a text names this ETag as it is, if all its bytes are visible characters of ASCII. If not, it names some text.
 pub record NamesTag (tag text : List ℕ) : Type 0 where
   pub named : List ℕ
   pub line : IsOfTag named text

@@ -19,7 +19,8 @@ middle n = add binary64 (of_int binary64 (pos n)) HALF
 abbrev pub world_at : Placement → (column row : ℕ) → WorldFile
 world_at p column row = record { across = p.across; down = p.down; first = place_of p (middle column) (middle row) }
 
--- The same in a level, by the first level's columns and rows, `whole`, and the level's own. A level that isn't there has no pixels, and stands for the first.
+-- The same in a level, by the columns and rows of the first level, `whole`, and of the level itself. A level that isn't there has no
+-- pixels, and the first level stands for it.
 abbrev pub world_by : Option Placement → (whole sides : Option (ℕ × ℕ)) → (column row : ℕ) → Option WorldFile
 world_by None whole sides column row = None
 world_by (Some p) (Some whole) (Some sides) column row = Some (world_at (of_level p whole sides) column row)

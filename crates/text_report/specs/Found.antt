@@ -7,7 +7,7 @@ use Rattle.tiff_dir.specs.declared.fault.FileFault.TheVariants.{Unsupported}
 use Rattle.tiff_dir.specs.File.{directories, value}
 use Rattle.tiff_dir.specs.Level.{is_level}
 
--- the values that the sentence on the field names as read: all of a field that it says nothing of
+-- the values that the sentence on the field names as read; of a field on which it says nothing, all
 abbrev pub is_read : ℕ → ℕ → Bool
 is_read tag v =
     if tag == BITS_PER_SAMPLE then v == 8 || v == 16
@@ -21,7 +21,7 @@ is_read tag v =
 abbrev pub HasValue : List ℕ → ℕ → ℕ → Type 0
 HasValue f tag v = (i k : ℕ) × (slice_get (directories f) i ≡ Some k) × (is_level f k ≡ true) × (value f k tag 0 ≡ Some v)
 
--- the fault is of a value that isn't read, and this is one that the file has
+-- the fault is of a value that isn't read, and `v` is such a value that the file has
 abbrev pub IsFoundIn : List ℕ → FileFault → ℕ → Type 0
 IsFoundIn f (Unsupported tag) v = (is_read tag v ≡ false) × HasValue f tag v
 IsFoundIn f _ v = ⊥

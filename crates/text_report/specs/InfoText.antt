@@ -1,6 +1,6 @@
--- What the text of Info tells first.
+-- What the text of Info says first.
 use Rattle.std.specs.Prelude.{◌≡◌, ℕ, List, ◌++◌, codes}
 
--- the text's first line names the file's tag
+-- the first line of the text names the file's ETag
 abbrev pub IsOfTag : (tag text : List ℕ) → Type 0
 IsOfTag tag text = (facts : List ℕ) × (text ≡ codes "tag " ++ tag ++ codes "\n" ++ facts)

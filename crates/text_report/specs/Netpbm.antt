@@ -7,11 +7,11 @@ use Rattle.cog_reader.specs.declared.outcome.Outcome.TheVariants as outcomes
 abbrev pub magic : ℕ → List ℕ
 magic samples = if samples == 1 then codes "P5" else codes "P6"
 
--- the maximum value of a sample of so many bits; above 255 a sample has two bytes, the most significant one first
+-- the maximum value of a sample of `bits` bits; above 255 a sample has two bytes, the most significant one first
 abbrev pub maximum : ℕ → List ℕ
 maximum bits = if bits == 16 then codes "65535" else codes "255"
 
--- the magic number, the width, the height and the maximum value, each with white space behind it, and the pixels row by row
+-- the magic number, the width, the height and the maximum value, each with white space after it, and then the pixels row by row
 unfoldable pub netpbm : (samples bits w h : ℕ) → List ℕ → List ℕ
 netpbm samples bits w h pixels =
     magic samples ++ codes "\n" ++ decimal w ++ codes " " ++ decimal h ++ codes "\n" ++ maximum bits ++ codes "\n" ++ pixels

@@ -1,4 +1,4 @@
--- A level that was read, as the definitions see it.
+-- A level that was read, in the words of the definitions.
 use Rattle.std.specs.Prelude.{ℕ, List, map, Option, Some, ◌≡◌}
 use Rattle.tiff_dir.specs.declared.level.Level.{Level}
 use Rattle.tiff_dir.specs.Level.{Grid, Layout, layouts}

@@ -1,5 +1,4 @@
--- What is wrong with a file's directories: the faults that stand for every query. A condition on a value
--- that isn't there doesn't hold.
+-- The faults of a file's directories. A file has them for every query. A condition on a value that isn't there doesn't hold.
 use Rattle.tiff_dir.specs.declared.tags.TheConstants.{BITS_PER_SAMPLE, IMAGE_LENGTH, IMAGE_WIDTH, NEW_SUBFILE_TYPE, PHOTOMETRIC_INTERPRETATION, PLANAR_CONFIGURATION, SAMPLES_PER_PIXEL, TILE_BYTE_COUNTS, TILE_LENGTH, TILE_OFFSETS, TILE_WIDTH}
 use Rattle.tiff_dir.specs.declared.limits.TheConstants.{MAX_DIRECTORIES, MAX_TILES, MAX_TILE_BYTES}
 use Rattle.std.specs.Prelude.{◌≡◌, ◌≢◌, ℕ, ◌%◌, ◌<◌, ◌≤◌, ◌⊎◌, Bool, true, false, ◌&&◌, ◌||◌, nat_lt, nat_le, ◌==◌, if◌then◌else◌, List, [], ◌∷◌, length, Option, Some, None, IsSomeAnd}
@@ -29,7 +28,7 @@ ascends (a ∷ b ∷ fields) = nat_lt a.tag b.tag && ascends (b ∷ fields)
 abbrev pub IsMisfit : (ℕ → ℕ → Bool) → Option ℕ → Option ℕ → Type 0
 IsMisfit fits a b = IsSomeAnd a (λ x. IsSomeAnd b (λ y. fits x y ≡ false))
 
--- a field has another number of values than the profile says
+-- a field has another number of values than the profile demands
 abbrev pub IsMiscounted : List ℕ → ℕ → ValueCount → Field → Type 0
 IsMiscounted f k One e = IsSomeAnd e.count (λ count. (count == 1) ≡ false)
 IsMiscounted f k Samples e = IsMisfit (λ count samples. count == samples) e.count (value f k SAMPLES_PER_PIXEL 0)
@@ -46,8 +45,8 @@ IsRuleFault f k rule (FieldType tag) =
     × IsSomeAnd (field f k tag) (λ e. IsSomeAnd e.kind (λ kind. has_typing rule.typing kind ≡ false) ⊎ IsMiscounted f k rule.count e)
 IsRuleFault f k rule _ = ⊥
 
--- A value is none that the profile accepts. Of SamplesPerPixel and PlanarConfiguration the accepted values depend on
--- another field; the values of BitsPerSample are one and the same.
+-- The profile doesn't accept a value. Of SamplesPerPixel and PlanarConfiguration the accepted values depend on another field. The values
+-- of BitsPerSample have to be equal.
 abbrev pub IsUnsupported : List ℕ → ℕ → ℕ → Type 0
 IsUnsupported f k tag =
     ((i : ℕ) × IsSomeAnd (value f k tag i) (λ v. accepts tag v ≡ false))
@@ -65,7 +64,7 @@ sides f k = do
   length ← value f k IMAGE_LENGTH 0
   Some (width, length)
 
--- in neither side greater, and smaller in one
+-- no side is greater, and one is smaller
 abbrev pub is_smaller : ℕ × ℕ → ℕ × ℕ → Bool
 is_smaller a b = (nat_le a.0 b.0 && nat_le a.1 b.1) && (nat_lt a.0 b.0 || nat_lt a.1 b.1)
 
@@ -86,7 +85,7 @@ IsNoTileSide f k tag = IsSomeAnd (value f k tag 0) (λ side. is_tile_side side �
 abbrev pub IsNoTileArray : List ℕ → ℕ → ℕ → Type 0
 IsNoTileArray f k tag = IsMisfit (λ n count. n == count) (directory_tiles f k) (field f k tag >>= λ e. e.count)
 
--- A fault of directory k, whether it is a level or not.
+-- A fault of directory `k`, whether it is a level or not.
 abbrev pub IsFaultOfDirectory : List ℕ → ℕ → FileFault → Type 0
 IsFaultOfDirectory f k DirPlace = IsSomeAnd (directory f k) (λ at. is_directory_place at ≡ false)
 IsFaultOfDirectory f k DirCount = IsSomeAnd (entry_count f k) (λ n. is_entry_count n ≡ false)
@@ -96,7 +95,7 @@ IsFaultOfDirectory f k (FieldType tag) = IsRuleFault f k subfile_rule (FieldType
 IsFaultOfDirectory f k LevelShape = (k ≡ 0) × IsSomeAnd (value f 0 NEW_SUBFILE_TYPE 0) (λ v. v % 2 ≡ 1)
 IsFaultOfDirectory f k _ = ⊥
 
--- A fault of directory k, which is a level.
+-- A fault of directory `k`, which is a level.
 abbrev pub IsFaultOfLevel : List ℕ → ℕ → FileFault → Type 0
 IsFaultOfLevel f k (Missing tag) = Any (λ rule. IsRuleFault f k rule (Missing tag)) profile
 IsFaultOfLevel f k (FieldType tag) = Any (λ rule. IsRuleFault f k rule (FieldType tag)) profile
@@ -108,19 +107,19 @@ IsFaultOfLevel f k TileArray =
     IsSomeAnd (directory_tiles f k) (λ n. nat_le n MAX_TILES ≡ false) ⊎ (IsNoTileArray f k TILE_OFFSETS ⊎ IsNoTileArray f k TILE_BYTE_COUNTS)
 IsFaultOfLevel f k _ = ⊥
 
--- A fault of the file that is none of one directory alone.
+-- A fault of the file that isn't of one directory alone.
 abbrev pub IsFaultOfChain : List ℕ → FileFault → Type 0
--- the bytes that name the order are there and are neither pair, or the number after them isn't 42
+-- the bytes that name the byte order are there and are neither `II` nor `MM`, or the number after them isn't 42
 IsFaultOfChain f Header = ((2 ≤ length f) × (order_of f ≡ None)) ⊎ IsSomeAnd (number f 2 2) (λ n. n ≢ 42)
 IsFaultOfChain f PastEnd = list_any (ends_past f) (needs_of_directories f) ≡ true
--- the place after as many directories as a file may have isn't 0
+-- the offset after as many directories as a file may have isn't 0
 IsFaultOfChain f TooManyDirs = has_directory f MAX_DIRECTORIES ≡ true
 IsFaultOfChain f _ = ⊥
 
 abbrev pub IsFaultAt : List ℕ → ℕ → FileFault → Type 0
 IsFaultAt f k fault = IsFaultOfDirectory f k fault ⊎ ((is_level f k ≡ true) × IsFaultOfLevel f k fault)
 
--- A fault of the file's directories: of their chain, or of directory k of the file.
+-- A fault of the file's directories: of their chain, or of directory `k` of the file.
 unfoldable pub IsFaultOfDirectories : List ℕ → FileFault → Type 0
 IsFaultOfDirectories f fault =
     IsFaultOfChain f fault ⊎ ((k : ℕ) × ((k < MAX_DIRECTORIES) × (has_directory f k ≡ true)) × IsFaultAt f k fault)

@@ -1,4 +1,4 @@
--- The numbers under which faults are told.
+-- The numbers of faults.
 use Rattle.std.specs.Prelude.{ℕ, Option, Some, None}
 use Rattle.tiff_dir.specs.declared.fault.FileFault.{FileFault}
 use Rattle.tiff_dir.specs.declared.fault.FileFault.TheVariants.{Header, PastEnd, DirPlace, DirCount, TagOrder, TooManyDirs, Missing, FieldType, Unsupported, LevelShape, TileArray, TileSize, Packet, Outside, TooLarge, KeyHead, KeyOrder, KeyPlace}
@@ -23,7 +23,7 @@ number_of_fault KeyHead = 16
 number_of_fault KeyOrder = 17
 number_of_fault KeyPlace = 18
 
--- the field that a fault is about
+-- the tag of the field that a fault is about, if it is about one
 abbrev pub tag_of_fault : FileFault → Option ℕ
 tag_of_fault (Missing tag) = Some tag
 tag_of_fault (FieldType tag) = Some tag

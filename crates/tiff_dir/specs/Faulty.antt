@@ -1,4 +1,4 @@
--- What is wrong with a file for a query, and what its window is.
+-- The faults of a file for a query, and the window that the query asks for.
 use Rattle.tiff_dir.specs.declared.tags.TheConstants.{COMPRESSION, TILE_BYTE_COUNTS}
 use Rattle.tiff_dir.specs.declared.field_values.TheConstants.{COMPRESSION_NONE}
 use Rattle.tiff_dir.specs.declared.limits.TheConstants.{MAX_TILE_BYTES}
@@ -18,11 +18,11 @@ use Rattle.tiff_dir.specs.Fault.{IsFaultOfDirectories}
 use Rattle.tiff_dir.specs.Query.{rectangle, is_outside, is_too_large, window_tiles, array_ranges, tile_ranges, segment}
 use Rattle.tiff_dir.specs.Window.{HasSamples, IsUnpacked}
 
--- this holds of a tile of the window, by the number of its level and its own
+-- `P` holds of a tile of the window, by the number of its level and its own
 abbrev pub HasTile : List ℕ → Query → (ℕ → ℕ → Type 0) → Type 0
 HasTile f q P = IsSomeAnd (rectangle f q) (λ r. Any (P r.level) (window_tiles f q))
 
--- a tile may have so many bytes
+-- a tile may have `n` bytes
 abbrev pub is_byte_count : ℕ → Bool
 is_byte_count n = nat_lt 0 n && nat_le n MAX_TILE_BYTES
 
@@ -36,12 +36,12 @@ abbrev pub HasBadTile : List ℕ → Query → Type 0
 HasBadTile f q = HasTile f q (λ n t.
     IsSomeAnd (level_value f n TILE_BYTE_COUNTS t) (λ count. (is_byte_count count ≡ false) ⊎ IsNotPlainSize f n count))
 
--- no list is unpacked from the bytes of a tile of the window: they are no packets that fill it
+-- the bytes of a tile of the window can't be unpacked: they are no packets that fill it
 abbrev pub HasBadPackets : List ℕ → Query → Type 0
 HasBadPackets f q = HasTile f q (λ n t.
     IsSomeAnd (level_layout f n) (λ l. IsSomeAnd (segment f n t) (λ bytes. (plain : List ℕ) → IsUnpacked l bytes plain → ⊥)))
 
--- A fault of a window's own.
+-- A fault of the window itself.
 abbrev pub IsFaultOfWindow : List ℕ → Query → FileFault → Type 0
 IsFaultOfWindow f q PastEnd = list_any (ends_past f) (array_ranges f q ++ flat_map option_to_list (tile_ranges f q)) ≡ true
 IsFaultOfWindow f q TileSize = HasBadTile f q
@@ -50,16 +50,16 @@ IsFaultOfWindow f q Outside = is_outside f q ≡ true
 IsFaultOfWindow f q TooLarge = is_too_large f q ≡ true
 IsFaultOfWindow f q _ = ⊥
 
--- A fault of Info's own.
+-- A fault of Info itself.
 abbrev pub IsFaultOfInfo : List ℕ → FileFault → Type 0
 IsFaultOfInfo f PastEnd = list_any (ends_past f) (geo_ranges f) ≡ true
 IsFaultOfInfo f fault = IsGeoFault f fault ⊎ IsFaultOfKeys (key_source f) fault
 
--- The fault stands in the file for the query.
+-- The file has the fault for the query.
 unfoldable pub IsFaulty : List ℕ → Query → FileFault → Type 0
 IsFaulty f Info fault = IsFaultOfDirectories f fault ⊎ IsFaultOfInfo f fault
 IsFaulty f q fault = IsFaultOfDirectories f fault ⊎ IsFaultOfWindow f q fault
 
--- v is the window of the file: no fault stands, and v has its samples.
+-- `v` is the window of the file: the file has no fault for the query, and `v` has the window's samples.
 abbrev pub IsWindow : List ℕ → Query → List ℕ → Type 0
 IsWindow f q v = ((fault : FileFault) → IsFaulty f q fault → ⊥) × IsSomeAnd (rectangle f q) (λ r. HasSamples f r v)

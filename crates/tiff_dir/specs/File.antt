@@ -15,16 +15,16 @@ abbrev pub ◌>>=◌ : {A B : Type 0} → Option A → (A → Option B) → Opti
 (Some x) >>= f = f x
 None >>= f = None
 
--- the order that the first two bytes name
+-- the byte order that the first two bytes name
 unfoldable pub order_of : List ℕ → Option Order
 order_of f =
     if starts_with nat_eq f (codes "II") then Some Little else if starts_with nat_eq f (codes "MM") then Some Big else None
 
--- The number of the n bytes from at, in the file's order, where they are in the file.
+-- The number in the `n` bytes from `at` on, in the file's byte order, if these are in the file.
 unfoldable pub number : List ℕ → ℕ → ℕ → Option ℕ
 number f at n = order_of f >>= λ order. if nat_le (at + n) (length f) then Some (number_in order at n f) else None
 
--- Where directory k begins: the header says it of the first, and each directory of the next.
+-- Where directory `k` begins. The header has the offset of the first one, and each directory that of the next.
 unfoldable pub directory : List ℕ → ℕ → Option ℕ
 directory f zero = number f 4 4
 directory f (suc k) = do
@@ -32,38 +32,38 @@ directory f (suc k) = do
   entries ← number f at 2
   number f (at + 2 + 12 * entries) 4
 
--- none of the places of the directories 1 to k is 0 or missing
+-- no offset of the directories 1 to `k` is 0 or missing
 unfoldable pub has_directory : List ℕ → ℕ → Bool
 has_directory f zero = true
 has_directory f (suc k) = has_directory f k && option_map_or (nat_lt 0) (directory f (suc k)) false
 
--- the file's directories, by their numbers: 16 at most
+-- the file's directories, by their numbers: at most 16
 unfoldable pub directories : List ℕ → List ℕ
 directories f = filter (has_directory f) (range_with_len 0 MAX_DIRECTORIES)
 
--- how many entries directory k has
+-- how many entries directory `k` has
 unfoldable pub entry_count : List ℕ → ℕ → Option ℕ
 entry_count f k = directory f k >>= λ at. number f at 2
 
--- What an entry says of a field: its tag, type and count, and where the entry stands. Type and count are there where
--- their own bytes are in the file.
+-- What an entry says of a field: its tag, type and count, and where the entry stands. Type and count are there if their own bytes are
+-- in the file.
 pub record Field : Type 0 where
   pub tag : ℕ
   pub kind : Option ℕ
   pub count : Option ℕ
   pub place : ℕ
 
--- the entry at this place, where its tag is in the file
+-- the entry at this place, if its tag is in the file
 unfoldable pub field_at : List ℕ → ℕ → Option Field
 field_at f at =
     number f at 2 >>= λ tag. Some (record { tag = tag; kind = number f (at + 2) 2; count = number f (at + 4) 4; place = at })
 
--- those of the n entries from this place whose tags are in the file
+-- of the `n` entries from this place on, those whose tags are in the file
 unfoldable pub fields_from : List ℕ → ℕ → ℕ → List Field
 fields_from f at zero = []
 fields_from f at (suc n) = cons_option (field_at f at) (fields_from f (at + 12) n)
 
--- The entries of directory k: 12 bytes each, behind the count.
+-- The entries of directory `k`: 12 bytes each, after the count.
 unfoldable pub fields : List ℕ → ℕ → List Field
 fields f k = unwrap_or (do
   at ← directory f k
@@ -88,7 +88,7 @@ abbrev pub kind_of : ℕ → Option Kind
 kind_of zero = None
 kind_of (suc n) = slice_get kinds n
 
--- how many bytes a value of the type has: one where nothing else is said
+-- how many bytes a value of the type has: 1 for each type that isn't named
 abbrev pub size_of : Kind → ℕ
 size_of kind.Short = 2
 size_of kind.SignedShort = 2
@@ -100,12 +100,12 @@ size_of kind.SignedRational = 8
 size_of kind.Double = 8
 size_of kind = 1
 
--- Where values of so many bytes begin: left-justified in the entry's last four bytes where all of them fit, otherwise
--- at the offset that stands there.
+-- Where values of `len` bytes in all begin. If they fit into the last four bytes of the entry, they stand there, left-justified. If not,
+-- their offset stands there.
 unfoldable pub values_at : List ℕ → Field → ℕ → Option ℕ
 values_at f e len = if nat_le len 4 then Some (e.place + 8) else number f (e.place + 8) 4
 
--- value i of a field
+-- value `i` of a field
 unfoldable pub field_value : List ℕ → Field → ℕ → Option ℕ
 field_value f e i = do
   kind ← e.kind >>= kind_of
@@ -113,13 +113,13 @@ field_value f e i = do
   at ← values_at f e (count * size_of kind)
   if nat_lt i count then number f (at + i * size_of kind) (size_of kind) else None
 
--- what each value of an absent field stands for (section 8, of SampleFormat section 19), of those that the profile doesn't require
+-- the default of an absent field that the profile doesn't require (section 8, and section 19 for SampleFormat)
 abbrev pub default_of : ℕ → Option ℕ
 default_of tag =
     if tag == NEW_SUBFILE_TYPE then Some 0
     else if tag == SAMPLES_PER_PIXEL || tag == PLANAR_CONFIGURATION || tag == SAMPLE_FORMAT then Some 1 else None
 
--- Value i of the field with this tag in directory k. The field is absent where all tags of its directory are in the file, and
--- none is its own.
+-- Value `i` of the field with this tag in directory `k`, or the default of the field if it is absent. It is absent if all tags of its
+-- directory are in the file, and none is its own.
 unfoldable pub value : List ℕ → ℕ → ℕ → ℕ → Option ℕ
 value f k tag i = option_map_or (λ e. field_value f e i) (field f k tag) (if has_all_tags f k then default_of tag else None)

@@ -1,5 +1,5 @@
--- The fields that georeference an image: where they stand, and what is wrong with them (OGC 19-008, sections 7 and 8).
--- They are looked at in the first directory, for the query Info alone.
+-- The fields that georeference an image: where they stand, and their faults (OGC 19-008, sections 7 and 8). They are looked at in the
+-- first directory, and only for the query Info.
 use Rattle.tiff_dir.specs.declared.tags.TheConstants.{GEO_ASCII_PARAMS, GEO_DOUBLE_PARAMS, GEO_KEY_DIRECTORY}
 use Rattle.tiff_dir.specs.declared.limits.TheConstants.{MAX_GEO_BYTES}
 use Rattle.std.specs.Prelude.{◌≡◌, ℕ, false, ◌||◌, nat_le, ◌==◌, if◌then◌else◌, List, Option, Some, None, IsSomeAnd}
@@ -25,7 +25,7 @@ geo_place f tag = field f 0 tag >>= place_of f
 unfoldable pub geo_ranges : List ℕ → List Extent
 geo_ranges f = filter_map (λ (rule : Rule). field_range f 0 rule.tag) geo_profile
 
--- A geo field has another type or count than it may have, or too many bytes.
+-- A geo field has a type or a count that it may not have, or too many bytes.
 abbrev pub IsGeoFault : List ℕ → FileFault → Type 0
 IsGeoFault f (FieldType tag) = Any (λ rule. IsRuleFault f 0 rule (FieldType tag)) geo_profile
 IsGeoFault f TooLarge = Any (λ (r : Rule). IsSomeAnd (geo_place f r.tag) (λ p. nat_le p.len MAX_GEO_BYTES ≡ false)) geo_profile
@@ -33,7 +33,7 @@ IsGeoFault f _ = ⊥
 
 -- ---- the key directory (section 7.1.1)
 
--- how many values a geo field has: none where it is absent
+-- how many values a geo field has: 0 if it is absent
 abbrev pub item_count : List ℕ → ℕ → Option ℕ
 item_count f tag = option_map_or (λ (e : Field). e.count) (field f 0 tag) (if has_all_tags f 0 then Some 0 else None)
 

@@ -1,4 +1,4 @@
--- The entries of the geo fields in a table, and what they say by the rules for them.
+-- The entries of the geo fields in a table, and what they say by their rules.
 use Rattle.tiff_dir.specs.declared.tags.TheConstants.{GEO_ASCII_PARAMS, GEO_DOUBLE_PARAMS, GEO_KEY_DIRECTORY, MODEL_PIXEL_SCALE, MODEL_TIEPOINT, MODEL_TRANSFORMATION}
 use Rattle.tiff_dir.specs.declared.limits.TheConstants.{MAX_GEO_BYTES}
 use Rattle.std.specs.Prelude.{◌≡◌, ◌+◌, ◌<◌, ◌^◌, ◌⊎◌, ⊤, not, nat_lt, if◌then◌else◌, List, Option, Some, None, Result, Ok, Err}
@@ -12,7 +12,7 @@ use Rattle.tiff_dir.specs.declared.fault.FileFault.TheVariants.{FieldType, TooLa
 use Rattle.tiff_dir.specs.Profile.{geo_rule}
 use Rattle.tiff_dir.specs.Table.{allows, entry_with_tag, len_of, place_in}
 
--- those among the entries of a table
+-- the entries of the geo fields among those of a table
 abbrev pub geo_in : List DirectoryEntry → GeoEntries
 geo_in es = record {
   directory = entry_with_tag GEO_KEY_DIRECTORY es;
@@ -23,7 +23,7 @@ geo_in es = record {
   transformation = entry_with_tag MODEL_TRANSFORMATION es;
 }
 
--- where the values stand of a rule's entry
+-- where the values of a rule's entry stand
 abbrev pub place_by : Rule → Option DirectoryEntry → Result (Option Place) FileFault
 place_by r None = Ok None
 place_by r (Some e) =
@@ -48,7 +48,7 @@ IsFaultBy g fault =
     ⊎ ((place_by (geo_rule 4) g.tiepoints ≡ Err fault)
     ⊎ (place_by (geo_rule 5) g.transformation ≡ Err fault)))))
 
--- the place behind an entry's first eight bytes has 33 bits
+-- the place after the first eight bytes of an entry is below 2^33
 abbrev pub IsNear : Option DirectoryEntry → Type 0
 IsNear None = ⊤
 IsNear (Some e) = e.place + 8 < 2 ^ 33

@@ -1,4 +1,4 @@
--- The bytes of a file that its reader needs: those of its directories, which every query needs.
+-- The byte ranges of a file that every query needs: those of its directories.
 use Rattle.tiff_dir.specs.declared.tags.TheConstants.{BITS_PER_SAMPLE, SAMPLE_FORMAT}
 use Rattle.tiff_dir.specs.declared.limits.TheConstants.{MAX_ENTRIES}
 use Rattle.std.specs.Prelude.{◌≡◌, ℕ, ◌+◌, ◌*◌, Bool, ◌&&◌, nat_lt, nat_le, if◌then◌else◌, List, [], ◌∷◌, ◌++◌, Option, Some, None}
@@ -13,7 +13,7 @@ use Rattle.tiff_dir.specs.Level.{is_level, place_of}
 abbrev pub is_entry_count : ℕ → Bool
 is_entry_count n = nat_lt 0 n && nat_le n MAX_ENTRIES
 
--- the count of directory k
+-- the bytes of the count of directory `k`
 unfoldable pub count_range : List ℕ → ℕ → Option Extent
 count_range f k = directory f k >>= λ at. Some (record { first = at; len = 2 })
 
@@ -28,11 +28,11 @@ table_range f k = do
 abbrev pub extent_of_place : Place → Extent
 extent_of_place p = record { first = p.first; len = p.len }
 
--- the values of the field with this tag in directory k, in its entry or outside
+-- the values of the field with this tag in directory `k`, in its entry or outside
 unfoldable pub field_range : List ℕ → ℕ → ℕ → Option Extent
 field_range f k tag = field f k tag >>= place_of f >>= λ p. Some (extent_of_place p)
 
--- those that stand outside the entry
+-- these values, if they stand outside the entry
 unfoldable pub outside_range : List ℕ → ℕ → ℕ → Option Extent
 outside_range f k tag = field f k tag >>= place_of f >>= λ p. if nat_lt 4 p.len then Some (extent_of_place p) else None
 
@@ -41,16 +41,16 @@ unfoldable pub outside_ranges : List ℕ → ℕ → List Extent
 outside_ranges f k =
     if is_level f k then option_to_list (outside_range f k BITS_PER_SAMPLE) ++ option_to_list (outside_range f k SAMPLE_FORMAT) else []
 
--- what is read of directory k
+-- the ranges that are read of directory `k`
 unfoldable pub ranges_of_directory : List ℕ → ℕ → List Extent
 ranges_of_directory f k = option_to_list (count_range f k) ++ option_to_list (table_range f k) ++ outside_ranges f k
 
--- The ranges that every query needs, in the order in which they are read: the header, and what is read of each directory. A
--- range is among them where each value that gives its place is in the file.
+-- The ranges that every query needs, in the order in which they are read: the header, and then those of each directory. A range is
+-- among them if each value that gives its place is in the file.
 unfoldable pub needs_of_directories : List ℕ → List Extent
 needs_of_directories f = record { first = 0; len = 8 } ∷ flat_map (ranges_of_directory f) (directories f)
 
--- the ranges are the last ones of others
+-- the ranges `few` are the last ones of `many`
 pub record IsEndOf (few many : List Extent) : Type 0 where
   pub front : List Extent
   pub joined : many ≡ front ++ few

@@ -11,7 +11,7 @@ pub data Packet : Type 0 where
   -- nothing
   Passed : Packet
 
--- a signed byte n from 0 to 127 copies n + 1 bytes, one from -127 to -1 repeats a byte 1 - n times
+-- A signed byte `n` from 0 to 127 copies `n + 1` bytes. One from -127 to -1 repeats a byte `1 - n` times.
 abbrev pub IsPacket : Packet → Type 0
 IsPacket (Copied bytes) = (1 ≤ length bytes) × (length bytes ≤ MAX_PACKET_BYTES)
 IsPacket (Repeated times byte) = (2 ≤ times) × (times ≤ MAX_PACKET_BYTES)
@@ -23,18 +23,18 @@ written (Copied bytes) = (length bytes - 1) ∷ bytes
 written (Repeated times byte) = (257 - times) ∷ byte ∷ []
 written Passed = 128 ∷ []
 
--- what it stands for
+-- what a packet stands for
 abbrev pub output : Packet → List ℕ
 output (Copied bytes) = bytes
 output (Repeated times byte) = replicate times byte
 output Passed = []
 
--- no output crosses a multiple of row, the first one beginning at this place
+-- no output crosses a multiple of `row`, if the first one begins at `at`
 abbrev pub KeepRows : ℕ → ℕ → List Packet → Type 0
 KeepRows row at [] = ⊤
 KeepRows row at (p ∷ ps) = (at % row + length (output p) ≤ row) × KeepRows row (at + length (output p)) ps
 
--- The bytes are packets whose outputs, joined, are out, and each row is packed by itself.
+-- The bytes are packets whose outputs, joined, are `out`. Each row is packed by itself.
 pub record Packs (row : ℕ) (bytes out : List ℕ) : Type 0 where
   pub packets : List Packet
   pub lawful : AllByRecursion IsPacket packets
@@ -42,11 +42,11 @@ pub record Packs (row : ℕ) (bytes out : List ℕ) : Type 0 where
   pub out_is : flat_map output packets ≡ out
   pub rows : KeepRows row 0 packets
 
--- no packet begins another
+-- no packet is the beginning of another one
 abbrev pub PacketsAreApart : Type 0
 PacketsAreApart =
     (p q : Packet) (us vs : List ℕ) → IsPacket p → IsPacket q → written p ++ us ≡ written q ++ vs → (p ≡ q) × (us ≡ vs)
 
--- packed bytes stand for one text
+-- packed bytes stand for only one output
 abbrev pub TextsAreUnique : Type 0
 TextsAreUnique = (row : ℕ) (bytes out other : List ℕ) → Packs row bytes out → Packs row bytes other → out ≡ other

@@ -37,7 +37,7 @@ has_typing typing.ShortOrLong kind = kind == 3 || kind == 4
 has_typing typing.Ascii kind = kind == 2
 has_typing typing.Double kind = kind == 12
 
--- n, or some other multiple of it but 0
+-- a multiple of `n`, but not 0
 abbrev pub is_multiple : ℕ → ℕ → Bool
 is_multiple n count = nat_lt 0 n && (nat_lt 0 count && (count % n == 0))
 
@@ -73,7 +73,7 @@ accepts tag v =
 abbrev pub samples_fit : ℕ → ℕ → Bool
 samples_fit samples photometric = (samples == 1 && photometric == BLACK_IS_ZERO) || (samples == 3 && photometric == RGB)
 
--- chunky samples, or the samples of planes of their own where there is one: the same layout
+-- chunky samples, or planes of one sample each if there is one sample: both are the same layout
 abbrev pub planes_fit : ℕ → ℕ → Bool
 planes_fit planar samples = planar == CHUNKY || (planar == PLANAR && samples == 1)
 

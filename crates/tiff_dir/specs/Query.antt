@@ -15,7 +15,7 @@ use Rattle.extents.specs.Extent.{Extent, bytes_in, ends_past}
 use Rattle.tiff_dir.specs.Needs.{field_range, needs_of_directories}
 use Rattle.tiff_dir.specs.Geo.{geo_ranges}
 
--- columns from left and rows from top, in the samples of a level
+-- `width` columns from `left` on and `height` rows from `top` on, in the samples of a level
 pub record Rectangle : Type 0 where
   pub level : ℕ
   pub left : ℕ
@@ -23,26 +23,26 @@ pub record Rectangle : Type 0 where
   pub width : ℕ
   pub height : ℕ
 
--- level n has at least so many columns of w columns of level 0
+-- level `n` has at least `columns` columns for `w` columns of level 0
 abbrev pub has_columns : List ℕ → ℕ → ℕ → ℕ → Bool
 has_columns f columns w n = unwrap_or (do
   width ← level_value f n IMAGE_WIDTH 0
   first ← level_value f 0 IMAGE_WIDTH 0
   Some (nat_le (columns * first) (width * w))) false
 
--- the greatest such level, level 0 if there is none
+-- the greatest number of such a level, or 0 if there is none
 unfoldable pub smallest_level : List ℕ → ℕ → ℕ → ℕ
 smallest_level f columns w =
     unwrap_or (last_or None (filter (has_columns f columns w) (range_with_len 0 (length (level_directories f))))) 0
 
--- a place along a side of level 0, along the same side of another level: rounded down, and rounded up
+-- a position along a side of level 0, on the same side of another level: rounded down, and then rounded up
 abbrev pub scaled_down : ℕ → ℕ → ℕ → ℕ
 scaled_down side first at = at * side / first
 
 abbrev pub scaled_up : ℕ → ℕ → ℕ → ℕ
 scaled_up side first at = (at * side + first - 1) / first
 
--- a window of level 0 in level n, rounded outwards
+-- a window of level 0 in level `n`, rounded outwards
 unfoldable pub scaled : List ℕ → ℕ → ℕ → ℕ → ℕ → ℕ → Option Rectangle
 scaled f n x y w h = do
   first_width ← level_value f 0 IMAGE_WIDTH 0
@@ -53,17 +53,17 @@ scaled f n x y w h = do
       let top = scaled_down length first_length y in let bottom = scaled_up length first_length (y + h) in
       Some (record { level = n; left = left; top = top; width = right - left; height = bottom - top })
 
--- The rectangle that is asked for; 0 columns ask for none.
+-- The rectangle that is asked for. Neither 0 columns nor Info ask for one.
 unfoldable pub rectangle : List ℕ → Query → Option Rectangle
 rectangle f (Window x y w h (pick.Level n)) = Some (record { level = n; left = x; top = y; width = w; height = h })
 rectangle f (Window x y w h (pick.Columns columns)) = if columns == 0 then None else scaled f (smallest_level f columns w) x y w h
 rectangle f Info = None
 
--- the side is there and ends before this place
+-- the side is there, and ends before the position `end`
 abbrev pub passes : ℕ → Option ℕ → Bool
 passes end side = option_map_or (λ s. nat_lt s end) side false
 
--- a window is empty, its level isn't there, or it passes a side of the level
+-- a window is empty, its level isn't there, or it crosses a side of the level
 abbrev pub is_outside_level : List ℕ → ℕ → ℕ → ℕ → ℕ → ℕ → Bool
 is_outside_level f n x y w h =
     (w == 0) || (h == 0) || is_none (level_directory f n)
@@ -85,21 +85,21 @@ is_too_large f q = unwrap_or (do
 abbrev pub is_refused : List ℕ → Query → Bool
 is_refused f q = is_outside f q || is_too_large f q
 
--- two stretches, neither of them empty, have a place in common
+-- two intervals, neither of them empty, have a position in common
 abbrev pub overlap : ℕ → ℕ → ℕ → ℕ → Bool
 overlap a a_len b b_len = nat_lt a (b + b_len) && nat_lt b (a + a_len)
 
--- tile t of the grid has a pixel of the rectangle
+-- tile `t` of the grid has a pixel of the rectangle
 abbrev pub meets : Grid → Rectangle → ℕ → Bool
 meets g r t =
     overlap ((t % across g) * g.tile_width) g.tile_width r.left r.width
     && overlap ((t / across g) * g.tile_length) g.tile_length r.top r.height
 
--- the tiles of a rectangle, in ascending number
+-- the tiles of a rectangle, in the order of their numbers
 unfoldable pub tiles_in : Grid → Rectangle → List ℕ
 tiles_in g r = filter (meets g r) (range_with_len 0 (tile_total g))
 
--- The tiles that the window needs: none where it is outside or too large.
+-- The tiles that the window needs: none if it is outside or too large.
 unfoldable pub window_tiles : List ℕ → Query → List ℕ
 window_tiles f q =
     if is_refused f q then [] else unwrap_or (do
@@ -107,22 +107,22 @@ window_tiles f q =
       g ← level_grid f r.level
       Some (tiles_in g r)) []
 
--- the values of TileOffsets or TileByteCounts, in the entry or outside
+-- the range of the values of TileOffsets or TileByteCounts, in the entry or outside
 unfoldable pub array_range : List ℕ → ℕ → ℕ → Option Extent
 array_range f n tag = level_directory f n >>= λ k. field_range f k tag
 
--- where the bytes of tile t of level n stand
+-- the range of the bytes of tile `t` of level `n`
 unfoldable pub tile_range : List ℕ → ℕ → ℕ → Option Extent
 tile_range f n t = do
   first ← level_value f n TILE_OFFSETS t
   len ← level_value f n TILE_BYTE_COUNTS t
   Some (record { first = first; len = len })
 
--- Those bytes, where they are in the file.
+-- These bytes, if they are in the file.
 unfoldable pub segment : List ℕ → ℕ → ℕ → Option (List ℕ)
 segment f n t = tile_range f n t >>= λ r. if ends_past f r then None else Some (bytes_in f r)
 
--- where the bytes of the window's tiles stand, tile by tile
+-- the ranges of the bytes of the window's tiles, tile by tile
 unfoldable pub tile_ranges : List ℕ → Query → List (Option Extent)
 tile_ranges f q = option_map_or (λ r. map (tile_range f r.level) (window_tiles f q)) (rectangle f q) []
 
@@ -132,8 +132,8 @@ tile_ranges f q = option_map_or (λ r. map (tile_range f r.level) (window_tiles 
 abbrev pub joins : Extent → Extent → Bool
 joins g r = (r.first == g.first + g.len) && nat_le (g.len + r.len) MAX_RANGE_BYTES
 
--- The ranges of a group and of the tiles after it: each tile joins the group of the one before, or begins the next. A tile whose
--- values aren't there is in no group and ends the one before.
+-- The ranges of a group and of the tiles after it. Each tile joins the group of the tile before it, or begins the next group. A tile
+-- whose values aren't there is in no group, and ends the one before it.
 abbrev pub joined_after : Option Extent → List (Option Extent) → List Extent
 joined_after before [] = option_to_list before
 joined_after before (None ∷ rest) = option_to_list before ++ joined_after None rest
@@ -141,7 +141,7 @@ joined_after None (Some r ∷ rest) = joined_after (Some r) rest
 joined_after (Some g) (Some r ∷ rest) =
     if joins g r then joined_after (Some (record g { len = g.len + r.len })) rest else g ∷ joined_after (Some r) rest
 
--- the arrays of the window's level
+-- the ranges of the tile arrays of the window's level
 unfoldable pub array_ranges : List ℕ → Query → List Extent
 array_ranges f q =
     if is_refused f q then [] else unwrap_or (do
@@ -161,6 +161,6 @@ needs f q = needs_of_directories f ++ needs_of_query f q
 abbrev pub blocks_of_extent : Extent → ℕ
 blocks_of_extent r = blocks r.first r.len
 
--- The blocks of the ranges that the query needs and that end inside the file. One that several ranges touch counts for each.
+-- How many blocks the ranges touch that the query needs and that end within the file. A block that several ranges touch counts for each.
 unfoldable pub cost : List ℕ → Query → ℕ
 cost f q = sum_by blocks_of_extent (filter (λ r. not (ends_past f r)) (needs f q))

@@ -18,12 +18,12 @@ use Rattle.tiff_dir.specs.Stage.{index_of, is_past_first, is_first_table, IsKept
 abbrev pub has_sides : Draft → Bool
 has_sides d = nat_lt 0 d.width && nat_lt 0 d.length
 
--- they are smaller than those of the level before
+-- the sides aren't 0, and are smaller than those of the level before
 abbrev pub fits_under : Option Level → Draft → Bool
 fits_under None d = has_sides d
 fits_under (Some p) d = has_sides d && is_smaller (d.width, d.length) (p.width, p.length)
 
--- the tile sides and the plain size of a tile are those of the profile
+-- the sides of a tile and its unpacked size are allowed by the profile
 abbrev pub has_tiles : Draft → ℕ → Bool
 has_tiles d bits =
     is_tile_side d.tile_width && (is_tile_side d.tile_length
@@ -33,7 +33,7 @@ has_tiles d bits =
 abbrev pub draft_tiles : Draft → ℕ
 draft_tiles d = tile_count d.width d.length d.tile_width d.tile_length
 
--- there are not too many tiles, and as many offsets and byte counts
+-- there are not too many tiles, and as many offsets and byte counts as tiles
 abbrev pub has_arrays : Draft → Bool
 has_arrays d = nat_le (draft_tiles d) MAX_TILES && ((draft_tiles d == d.offsets.count) && (draft_tiles d == d.counts.count))
 
@@ -43,7 +43,7 @@ pub record IsShaped (previous : Option Level) (d : Draft) (bits : ℕ) : Type 0 
   pub tiles : has_tiles d bits ≡ true
   pub arrays : has_arrays d ≡ true
 
--- it fails one of them
+-- the draft fails one of the tests
 abbrev pub IsShapeFault : Option Level → Draft → ℕ → FileFault → Type 0
 IsShapeFault previous d bits LevelShape = fits_under previous d ≡ false
 IsShapeFault previous d bits TileSize = has_tiles d bits ≡ false
@@ -67,7 +67,7 @@ pub record IsNext (stage : Stage) (given : ℕ) (step : WalkStep) : Type 0 where
   pub some : 0 < index_of step.stage → (0 < index_of stage) ⊎ IsSome step.level
   pub first : is_past_first step.stage ≡ true → (is_past_first stage ≡ true) ⊎ (is_first_table stage ≡ true)
 
--- a step that ends directory k has its level
+-- a step that ends directory `k` has its level
 pub record IsEnd (k : ℕ) (step : WalkStep) : Type 0 where
   pub kept : IsKept step.stage (1 + 4 * (k + 1))
   pub some : IsSome step.level

@@ -56,20 +56,20 @@ is_past_first (Bits pending first formats) = true
 is_past_first (Formats pending first bits) = true
 is_past_first (Ended order index) = true
 
--- it is what is wanted
+-- the table of the first directory is wanted
 abbrev pub is_first_table : Stage → Bool
 is_first_table (Table order index at n) = index == 0
 is_first_table _ = false
 
--- the layouts of the levels among the directories below k
+-- the layouts of the levels among the directories below `k`
 unfoldable pub layouts_below : List ℕ → ℕ → List (Option Layout)
 layouts_below f k = map (layout_at f) (filter (is_level f) (range_with_len 0 k))
 
--- the level before directory k, if there is one
+-- the level before directory `k`, if there is one
 abbrev pub IsBefore : List ℕ → ℕ → Option Level → Type 0
 IsBefore f k previous = option_map (layout_at f) (previous_level f k) ≡ option_map described previous
 
--- what the directories from k on need
+-- what the directories from `k` on need
 unfoldable pub ranges_from : List ℕ → ℕ → List Extent
 ranges_from f k = flat_map (ranges_of_directory f) (filter (has_directory f) (range_with_len k (MAX_DIRECTORIES - k)))
 
@@ -88,20 +88,20 @@ still f (Bits pending first formats) =
 still f (Formats pending first bits) = three_shorts first ∷ ranges_from f (suc pending.index)
 still f (Ended order index) = []
 
--- the order and the number 42 are told, and no fault is in the directories below k
+-- the byte order and the number 42 are known, and the directories below `k` have no fault
 pub record IsWalked (f : List ℕ) (order : Order) (k : ℕ) : Type 0 where
   pub named : order_of f ≡ Some order
   pub number : number f 2 2 ≡ Some 42
   pub clean : (j : ℕ) → j < k → (fault : FileFault) → IsFaultAt f j fault → ⊥
 
--- the directories below k are there, and at is what is told of the place of directory k
+-- the directories below `k` are there, and `at` is the offset of directory `k`
 pub record Follows (f : List ℕ) (order : Order) (k at : ℕ) : Type 0 where
   pub walked : IsWalked f order k
   pub few : k ≤ MAX_DIRECTORIES
   pub before : (j : ℕ) → k ≡ suc j → has_directory f j ≡ true
   pub place : directory f k ≡ Some at
 
--- directory k is there and begins at a lawful place
+-- directory `k` is there, and begins at a place where one may begin
 pub record Reaches (f : List ℕ) (order : Order) (k at : ℕ) : Type 0 where
   pub walked : IsWalked f order k
   pub few : k < MAX_DIRECTORIES
@@ -114,12 +114,12 @@ pub record Counts (f : List ℕ) (order : Order) (k at n : ℕ) : Type 0 where
   pub count : number f at 2 ≡ Some n
   pub good : is_entry_count n ≡ true
 
--- k directories are all that there are
+-- there are `k` directories, and no more
 pub record IsOver (f : List ℕ) (order : Order) (k : ℕ) : Type 0 where
   pub follows : Follows f order k 0
   pub some : 0 < k
 
--- the draft has the values of directory k
+-- the draft has the values of directory `k`
 pub record IsDrafted (f : List ℕ) (k : ℕ) (d : Draft) : Type 0 where
   pub width : value f k IMAGE_WIDTH 0 ≡ Some d.width
   pub length : value f k IMAGE_LENGTH 0 ≡ Some d.length
@@ -130,7 +130,7 @@ pub record IsDrafted (f : List ℕ) (k : ℕ) (d : Draft) : Type 0 where
   pub offsets : (field f k TILE_OFFSETS >>= place_of f) ≡ Some d.offsets
   pub counts : (field f k TILE_BYTE_COUNTS >>= place_of f) ≡ Some d.counts
 
--- directory k is a level that is read but for the values of 258 and 339, and next is told of the place behind it
+-- directory `k` is a level, which is read except for the values of 258 and 339; `next` is the offset after it
 pub record IsPending (f : List ℕ) (p : Pending) : Type 0 where
   pub walked : IsWalked f p.order p.index
   pub few : p.index < MAX_DIRECTORIES
@@ -143,28 +143,28 @@ pub record IsPending (f : List ℕ) (p : Pending) : Type 0 where
   pub supported : (tag : ℕ) → tag ≢ BITS_PER_SAMPLE → tag ≢ SAMPLE_FORMAT → IsUnsupported f p.index tag → ⊥
   pub drafted : IsDrafted f p.index p.draft
 
--- the three values of the field stand from first on
+-- the three values of the field stand from `first` on
 abbrev pub HasShorts : List ℕ → ℕ → ℕ → ℕ → Type 0
 HasShorts f k tag first = (i : ℕ) → value f k tag i ≡ (if nat_lt i 3 then number f (first + i * 2) 2 else None)
 
--- nothing is wrong with the values of the field
+-- the values of the field have no fault
 abbrev pub IsSupported : List ℕ → ℕ → ℕ → Type 0
 IsSupported f k tag = IsUnsupported f k tag → ⊥
 
--- SampleFormat stands outside its entry, or it is right
+-- the values of SampleFormat stand outside its entry, or they have no fault
 abbrev pub HasFormats : List ℕ → ℕ → Option ℕ → Type 0
 HasFormats f k None = IsSupported f k SAMPLE_FORMAT
 HasFormats f k (Some first) = HasShorts f k SAMPLE_FORMAT first
 
--- the three numbers of two bytes are this one
+-- each of the three numbers of two bytes is `w`
 abbrev pub all_are : Order → List ℕ → ℕ → Bool
 all_are o bytes w = (number_in o 0 2 bytes == w) && ((number_in o 2 2 bytes == w) && (number_in o 4 2 bytes == w))
 
--- they are one and the same depth of a sample
+-- the depth of a sample that all three numbers are, if they are one
 abbrev pub depth_in : Order → List ℕ → Option ℕ
 depth_in o bytes = let bits = number_in o 0 2 bytes in if is_depth bits && all_are o bytes bits then Some bits else None
 
--- the values of BitsPerSample are one and the same depth of the profile, or not
+-- the values of BitsPerSample are one and the same depth of the profile, or they aren't
 abbrev pub HasBits : List ℕ → ℕ → Option ℕ → Type 0
 HasBits f k (Some bits) = (value f k BITS_PER_SAMPLE 0 ≡ Some bits) × (is_depth bits ≡ true) × IsSupported f k BITS_PER_SAMPLE
 HasBits f k None = IsUnsupported f k BITS_PER_SAMPLE
@@ -177,11 +177,11 @@ AgreesAt f (Bits p first formats) = IsPending f p × HasShorts f p.index BITS_PE
 AgreesAt f (Formats p first bits) = IsPending f p × HasShorts f p.index SAMPLE_FORMAT first × HasBits f p.index bits
 AgreesAt f (Ended order index) = IsOver f order index
 
--- the bytes are the table of directory k, with the place of the next one
+-- the bytes are the table of directory `k`, with the offset of the next directory
 abbrev pub IsTableOf : List ℕ → Order → ℕ → ℕ → ℕ → List ℕ → Type 0
 IsTableOf f order k at n bytes = Counts f order k at n × (bytes ≡ bytes_in f (record { first = at + 2; len = 12 * n + 4 }))
 
--- the walk is at the beginning of directory k, or at the end
+-- the walk is at the beginning of directory `k`, or at the end
 abbrev pub IsAt : List ℕ → ℕ → Stage → Type 0
 IsAt f k stage = AgreesAt f stage × (still f stage ≡ ranges_from f k)
 
@@ -192,7 +192,7 @@ pub record StepsOn (f : List ℕ) (stage : Stage) (step : WalkStep) : Type 0 whe
       ≡ layouts_below f (index_of stage) ++ map described (option_to_list step.level)
   pub come : (r : Extent) → range_of stage ≡ Some r → still f stage ≡ r ∷ still f step.stage
 
--- The directory is done with: the walk goes on to the next one or ends.
+-- The directory is finished: the walk goes on to the next one, or ends.
 pub record EndsDirectory (f : List ℕ) (k : ℕ) (step : WalkStep) : Type 0 where
   pub here : AgreesAt f step.stage
   pub index : index_of step.stage ≡ suc k
@@ -218,7 +218,7 @@ pub record IsDraft (d : Draft) : Type 0 where
   pub long : d.offsets.kind ≡ kind.Long
   pub whole : d.counts.kind ≢ kind.Short → d.counts.kind ≡ kind.Long
 
--- how many ranges a walk has taken at most, and that it is at one of the directories that a file may have
+-- the walk has taken at most these ranges, and is at one of the directories that a file may have
 abbrev pub IsKept : Stage → ℕ → Type 0
 IsKept Header given = given ≤ 0
 IsKept (ValueCount order index at) given = (index < MAX_DIRECTORIES) × (given ≤ 1 + 4 * index)
@@ -228,7 +228,7 @@ IsKept (Formats p first bits) given =
     (p.index < MAX_DIRECTORIES) × (given ≤ 4 + 4 * p.index) × IsDraft p.draft × IfSome bits (λ n. is_depth n ≡ true)
 IsKept (Ended order index) given = (0 < index) × (index ≤ MAX_DIRECTORIES) × (given ≤ 1 + 4 * index)
 
--- the table of directory k, with what each entry holds in itself
+-- the entries are the table of directory `k`, with what each of them holds in itself
 pub record HasTable (f : List ℕ) (k : ℕ) (es : List DirectoryEntry) : Type 0 where
   pub there : has_directory f k ≡ true
   pub whole : has_all_tags f k ≡ true

@@ -1,6 +1,6 @@
--- What a directory's entries hold in themselves, for fields of the profile's types. An entry here is what the code has of a
--- field: it is read in the bytes of a table, which are all there, with the numbers in its last four bytes. A field of the
--- module File is what the file says of it, as far as its bytes are there. `HasTable` in the module Stage joins the two.
+-- What a directory's entries hold in themselves, for fields of the profile's types. An entry here is what the code has of a field. It is
+-- read from the bytes of a table, which are all there, with the numbers in its last four bytes. A field of the module File is what
+-- the file says of it, as far as its bytes are there. `HasTable` in the module Stage joins the two.
 use Rattle.tiff_dir.specs.declared.tags.TheConstants.{BITS_PER_SAMPLE, COMPRESSION, IMAGE_LENGTH, IMAGE_WIDTH, PHOTOMETRIC_INTERPRETATION, PLANAR_CONFIGURATION, SAMPLES_PER_PIXEL, SAMPLE_FORMAT, TILE_BYTE_COUNTS, TILE_LENGTH, TILE_OFFSETS, TILE_WIDTH}
 use Rattle.tiff_dir.specs.declared.field_values.TheConstants.{CHUNKY}
 use Rattle.std.specs.Prelude.{◌≡◌, ◌⊎◌, ℕ, zero, suc, ◌+◌, ◌*◌, ◌<◌, Bool, true, false, not, ◌&&◌, nat_le, ◌==◌, if◌then◌else◌, List, [], ◌∷◌, length, get_or, Option, Some, None, IsSomeAnd}
@@ -24,7 +24,7 @@ use Rattle.tiff_dir.specs.File.{Field, size_of}
 use Rattle.tiff_dir.specs.Level.{compression_of}
 use Rattle.tiff_dir.specs.Profile.{profile, has_typing, is_multiple, accepts, samples_fit, planes_fit}
 
--- the entry in the 12 bytes from at, of bytes that stand in the file from base
+-- the entry in the 12 bytes from `at` on, of bytes that stand in the file from `base` on
 abbrev pub entry_at : Order → ℕ → ℕ → List ℕ → DirectoryEntry
 entry_at o base at bytes = record {
   tag = number_in o at 2 bytes;
@@ -35,7 +35,7 @@ entry_at o base at bytes = record {
   long = number_in o (at + 8) 4 bytes;
 }
 
--- the n entries from at
+-- the `n` entries from `at` on
 unfoldable pub entries_from : Order → ℕ → ℕ → ℕ → List ℕ → List DirectoryEntry
 entries_from o base at zero bytes = []
 entries_from o base at (suc n) bytes = entry_at o base at bytes ∷ entries_from o base (at + 12) n bytes
@@ -53,7 +53,7 @@ field_with_tag tag fields = find (λ e. e.tag == tag) fields
 abbrev pub entry_with_tag : ℕ → List DirectoryEntry → Option DirectoryEntry
 entry_with_tag tag es = find (λ e. e.tag == tag) es
 
--- what is asked of the count before the samples and the tiles are known
+-- what is demanded of the count before samples and tiles are known
 abbrev pub counts_one : ValueCount → ℕ → Bool
 counts_one One count = count == 1
 counts_one Samples count = true
@@ -61,7 +61,7 @@ counts_one Tiles count = true
 counts_one (Exactly n) count = count == n
 counts_one (Multiple n) count = is_multiple n count
 
--- the type is right, and the count where it is to be one
+-- the type is allowed, and the count, as far as samples and tiles don't matter
 abbrev pub allows : Rule → DirectoryEntry → Bool
 allows r e = has_typing r.typing e.kind && counts_one r.count e.count
 
@@ -69,7 +69,7 @@ allows r e = has_typing r.typing e.kind && counts_one r.count e.count
 abbrev pub keeps : List DirectoryEntry → Rule → Bool
 keeps es r = option_map_or (allows r) (entry_with_tag r.tag es) (not r.required)
 
--- what is wrong with the field of the rule
+-- the fault of the rule's field
 abbrev pub IsEntryFault : Rule → List DirectoryEntry → FileFault → Type 0
 IsEntryFault r es (Missing tag) = (r.tag ≡ tag) × (r.required ≡ true) × (entry_with_tag r.tag es ≡ None)
 IsEntryFault r es (FieldType tag) = (r.tag ≡ tag) × IsSomeAnd (entry_with_tag r.tag es) (λ e. allows r e ≡ false)
@@ -79,14 +79,14 @@ IsEntryFault r es _ = ⊥
 abbrev pub IsFaultOfEntries : List Rule → List DirectoryEntry → FileFault → Type 0
 IsFaultOfEntries rules es fault = (k : ℕ) × (d : Rule) × (k < length rules) × IsEntryFault (get_or rules k d) es fault
 
--- the only value, of a field of SHORT or LONG
+-- the only value of a field of SHORT or LONG
 abbrev pub single_of : DirectoryEntry → ℕ
 single_of e = if e.kind == 3 then e.short else e.long
 
 abbrev pub single_or : List DirectoryEntry → ℕ → ℕ → ℕ
 single_or es tag default = option_map_or single_of (entry_with_tag tag es) default
 
--- the first value, of a field of SHORT
+-- the first value of a field of SHORT
 abbrev pub short_or : List DirectoryEntry → ℕ → ℕ → ℕ
 short_or es tag default = option_map_or (λ e. e.short) (entry_with_tag tag es) default
 
@@ -98,7 +98,7 @@ counts_samples es tag = option_map_or (λ e. e.count == short_or es SAMPLES_PER_
 abbrev pub long_in : List DirectoryEntry → ℕ → Option ℕ
 long_in es tag = option_map (λ e. e.long) (entry_with_tag tag es)
 
--- the type of a number that a rule allows; of another one, which no rule does, that of DOUBLE
+-- the type with a number that a rule allows; other numbers, which no rule allows, give DOUBLE
 abbrev pub kind_in : ℕ → Kind
 kind_in number =
     if number == 3 then kind.Short
@@ -133,14 +133,14 @@ draft_in es compression = record {
   counts = place_or es TILE_BYTE_COUNTS;
 }
 
--- the values of 262, 277, 284 and 259 are those of the profile, and the last one names this compression
+-- the values of 262, 277, 284 and 259 are those of the profile, and that of 259 names this compression
 pub record HasValues (es : List DirectoryEntry) (c : Compression) : Type 0 where
   pub photometric : accepts PHOTOMETRIC_INTERPRETATION (short_or es PHOTOMETRIC_INTERPRETATION 0) ≡ true
   pub samples : samples_fit (short_or es SAMPLES_PER_PIXEL 1) (short_or es PHOTOMETRIC_INTERPRETATION 0) ≡ true
   pub planar : planes_fit (short_or es PLANAR_CONFIGURATION CHUNKY) (short_or es SAMPLES_PER_PIXEL 1) ≡ true
   pub compression : compression_of (short_or es COMPRESSION 0) ≡ Some c
 
--- one of them isn't, and its tag
+-- one of these values isn't, and the fault has its tag
 abbrev pub IsValueFault : List DirectoryEntry → FileFault → Type 0
 IsValueFault es fault =
     ((fault ≡ Unsupported PHOTOMETRIC_INTERPRETATION) × (accepts PHOTOMETRIC_INTERPRETATION (short_or es PHOTOMETRIC_INTERPRETATION 0) ≡ false))
@@ -156,14 +156,14 @@ abbrev pub IsCountFault : List DirectoryEntry → FileFault → Type 0
 IsCountFault es fault =
     ((fault ≡ FieldType BITS_PER_SAMPLE) × (counts_samples es BITS_PER_SAMPLE ≡ false)) ⊎ ((fault ≡ FieldType SAMPLE_FORMAT) × (counts_samples es SAMPLE_FORMAT ≡ false))
 
--- the entries keep the profile, and this is what they say of the level
+-- the entries keep the profile, and `d` is what they say of the level
 pub record IsReadIn (es : List DirectoryEntry) (d : Draft) : Type 0 where
   pub met : AllPass (keeps es) profile
   pub values : HasValues es d.compression
   pub counts : HasCounts es
   pub draft : d ≡ draft_in es d.compression
 
--- they don't
+-- the entries don't keep the profile
 abbrev pub IsReadFault : List DirectoryEntry → FileFault → Type 0
 IsReadFault es fault =
     IsFaultOfEntries profile es fault

@@ -1,4 +1,4 @@
--- The words for what callers see of a walk over a file's directories, which is given one range of the file after another.
+-- What callers see of a walk over a file's directories. The walk is given one range of the file after another.
 use Rattle.tiff_dir.specs.declared.tags.TheConstants.{BITS_PER_SAMPLE, COMPRESSION, GEO_ASCII_PARAMS, GEO_DOUBLE_PARAMS, GEO_KEY_DIRECTORY, IMAGE_LENGTH, IMAGE_WIDTH, MODEL_PIXEL_SCALE, MODEL_TIEPOINT, MODEL_TRANSFORMATION, SAMPLES_PER_PIXEL, TILE_BYTE_COUNTS, TILE_LENGTH, TILE_OFFSETS, TILE_WIDTH}
 use Rattle.extents.specs.declared.limits.TheConstants.{MAX_RANGE_BYTES}
 use Rattle.tiff_dir.specs.declared.limits.TheConstants.{MAX_GEO_BYTES}
@@ -22,7 +22,7 @@ use Rattle.tiff_dir.specs.Geo.{geo_place, IsGeoFault}
 use Rattle.tiff_dir.specs.Stage.{range_of}
 use Rattle.tiff_dir.specs.WalkState.{WalkState, IsTold}
 
--- The range that the walk wants next, none at the end.
+-- The range that the walk wants next. There is none at the end.
 unfoldable pub wanted : WalkState → Option Extent
 wanted w = range_of w.stage
 
@@ -33,11 +33,11 @@ HasEnded w = wanted w ≡ None
 unfoldable pub given_of : WalkState → ℕ
 given_of w = w.given
 
--- The levels that it has read.
+-- The levels that the walk has read.
 unfoldable pub levels_of : WalkState → List Level
 levels_of w = w.levels
 
--- as many bytes as the walk wants
+-- `len` is the number of bytes that the walk wants
 abbrev pub IsWanted : WalkState → ℕ → Type 0
 IsWanted w len = IsSomeAnd (wanted w) (λ r. len ≡ r.len)
 
@@ -45,7 +45,7 @@ IsWanted w len = IsSomeAnd (wanted w) (λ r. len ≡ r.len)
 abbrev pub IsWantedOf : List ℕ → WalkState → List ℕ → Type 0
 IsWantedOf f w bytes = IsSomeAnd (wanted w) (λ r. bytes ≡ bytes_in f r)
 
--- The ranges of the file that a walk has still to take: those that its directories need, but for the ones taken.
+-- The ranges of the file that a walk still has to take: those that the directories need, without those that it took.
 unfoldable pub to_come : WalkState → List ℕ → List Extent
 to_come w f = drop w.given (needs_of_directories f)
 
@@ -53,13 +53,13 @@ to_come w f = drop w.given (needs_of_directories f)
 unfoldable pub WalkAgrees : WalkState → List ℕ → Type 0
 WalkAgrees w f = IsTold w f
 
--- the answer is the range that is wanted, of a file of so many bytes
+-- the answer is the wanted range of a file of `file_length` bytes; there is none at the end
 abbrev pub Wants : WalkState → ℕ → Option Span → Type 0
 Wants w file_length None = HasEnded w
 Wants w file_length (Some span) =
     (wanted w ≡ Some (extent_of_span span)) × (span.last < file_length) × (span.last + 1 ≤ span.first + MAX_RANGE_BYTES)
 
--- what level n of the file says of itself is what this level has
+-- the level `l` has what level `n` of the file says of itself
 pub record IsDescribed (f : List ℕ) (n : ℕ) (l : Level) : Type 0 where
   pub width : level_value f n IMAGE_WIDTH 0 ≡ Some l.width
   pub length : level_value f n IMAGE_LENGTH 0 ≡ Some l.length
@@ -74,7 +74,7 @@ pub record IsDescribed (f : List ℕ) (n : ℕ) (l : Level) : Type 0 where
   pub offsets : array_range f n TILE_OFFSETS ≡ Some (extent_of_place l.offsets)
   pub counts : array_range f n TILE_BYTE_COUNTS ≡ Some (extent_of_place l.counts)
 
--- what holds of the fault of a refusal
+-- `P` holds of the fault of a refusal, if it has one
 abbrev pub IfFile : Result (Unit {0}) WalkError → (FileFault → Type 0) → Type 0
 IfFile (Ok _) P = Unit {0}
 IfFile (Err (errors.File fault)) P = P fault
@@ -98,7 +98,7 @@ pub record AreGeoPlaces (f : List ℕ) (p : GeoPlaces) : Type 0 where
   pub scale : IsGeoFieldAt f MODEL_PIXEL_SCALE p.scale
   pub tiepoints : IsGeoFieldAt f MODEL_TIEPOINT p.tiepoints
   pub transformation : IsGeoFieldAt f MODEL_TRANSFORMATION p.transformation
-  -- nothing is wrong with their types, counts and lengths
+  -- their types, counts and lengths have no fault
   pub sound : (fault : FileFault) → IsGeoFault f fault → ⊥
 
 -- if there is a place, it is of values of this type, and of at most 65,536 bytes; it begins below 2^33

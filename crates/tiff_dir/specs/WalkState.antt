@@ -11,14 +11,14 @@ use Rattle.tiff_dir.specs.Described.{described}
 use Rattle.tiff_dir.specs.GeoEntries.{geo_in}
 use Rattle.tiff_dir.specs.Stage.{is_past_first, AgreesAt, HasTable, index_of, layouts_below, still}
 
--- where it stands, the levels so far, the entries of the geo fields, and how many ranges it has taken
+-- the stage, the levels so far, the entries of the geo fields, and how many ranges the walk has taken
 pub record WalkState : Type 0 where
   pub stage : Stage
   pub levels : List Level
   pub geo : GeoEntries
   pub given : ℕ
 
--- they are those of the first directory
+-- the entries of the geo fields are those of the first directory
 pub record HasGeo (f : List ℕ) (geo : GeoEntries) : Type 0 where
   pub entries : List DirectoryEntry
   pub told : HasTable f 0 entries

@@ -12,7 +12,7 @@ use Rattle.tiff_dir.specs.Level.{Grid, Layout, level_layout, across, plain_size,
 use Rattle.tiff_dir.specs.Packets.{Packs}
 use Rattle.tiff_dir.specs.Query.{Rectangle, segment}
 
--- Packed bytes stand for this text by the codec, in rows of `row` bytes.
+-- Packed bytes stand for `out` by the codec, in rows of `row` bytes.
 abbrev pub PacksBy : Codec → (row : ℕ) (bytes out : List ℕ) → Type 0
 PacksBy PackBits row bytes out = Packs row bytes out
 
@@ -21,7 +21,7 @@ abbrev pub is_packed : Compression → Bool
 is_packed Plain = false
 is_packed (Packed codec) = true
 
--- A tile's bytes are those of its segment, or what these stand for where they are packed.
+-- A tile's bytes are those of its segment, or, if these are packed, what they stand for.
 abbrev pub IsUnpackedBy : Compression → (row size : ℕ) (bytes out : List ℕ) → Type 0
 IsUnpackedBy Plain row size bytes out = out ≡ bytes
 IsUnpackedBy (Packed codec) row size bytes out = (length out ≡ size) × PacksBy codec row bytes out
@@ -33,23 +33,23 @@ IsUnpacked l bytes out = IsUnpackedBy l.compression (plain_row l) (plain_size l)
 abbrev pub tile_at : Grid → ℕ → ℕ → ℕ
 tile_at g x y = (y / g.tile_length) * across g + x / g.tile_width
 
--- which sample of its tile is sample c of the pixel
+-- the place of sample `c` of the pixel among the samples of its tile
 abbrev pub place_in_tile : Layout → ℕ → ℕ → ℕ → ℕ
 place_in_tile l x y c = ((y % l.grid.tile_length) * l.grid.tile_width + x % l.grid.tile_width) * l.samples + c
 
--- the value of sample p of a tile: the number of its one or two bytes, in the file's order
+-- the value of sample `p` of a tile: the number in its one or two bytes, in the file's byte order
 unfoldable pub sample_in : Order → ℕ → List ℕ → ℕ → Option ℕ
 sample_in order bits plain p =
     let size = sample_bytes bits in
     if nat_le (p * size + size) (length plain) then Some (number_in order (p * size) size plain) else None
 
--- Sample c of the pixel in column x and row y of level n has this value.
+-- Sample `c` of the pixel in column `x` and row `y` of level `n` has this value.
 unfoldable pub IsSample : (f : List ℕ) (n x y c v : ℕ) → Type 0
 IsSample f n x y c v =
     IsSomeAnd (order_of f) (λ order. IsSomeAnd (level_layout f n) (λ l. IsSomeAnd (segment f n (tile_at l.grid x y)) (λ bytes.
     (plain : List ℕ) × IsUnpacked l bytes plain × (sample_in order l.bits plain (place_in_tile l x y c) ≡ Some v))))
 
--- v has the samples of the rectangle, row by row, and no more.
+-- `v` has the samples of the rectangle, row by row, and no others.
 pub record HasSamples (f : List ℕ) (r : Rectangle) (v : List ℕ) : Type 0 where
   pub layout : Layout
   pub layout_is : level_layout f r.level ≡ Some layout

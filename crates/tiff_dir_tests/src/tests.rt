@@ -1,4 +1,4 @@
-//! Files of directories that tests write entry by entry, and walks over them.
+//! Files whose directories tests write entry by entry, and walks over them.
 ghost use Rattle.std.specs.Prelude.{IfOk};
 ghost use Rattle.reference_support.specs.Walked.{IsWalked};
 
@@ -15,10 +15,10 @@ mod refused;
 mod tiles;
 mod walks;
 
-/// The tag, type, count and value of an entry; one SHORT stands left-justified.
+/// The tag, type, count and value of an entry. A single SHORT stands left-justified.
 type Entry = (u16, u16, u32, u32);
 
-/// The fields of a level of 16 by 16 samples in one plain tile; a type of 0 leaves a field out.
+/// The fields of a level of 16 by 16 samples in one plain tile. A type of 0 leaves a field out.
 const FIELDS: [Entry; 13] = [
     (254, 0, 0, 0),
     (256, 3, 1, 16),
@@ -51,7 +51,7 @@ fn put_long(file: &mut Vec<u8>, order: Order, number: u32) -> Result<(), Fail> {
     Ok(file.extend_from_slice(&bytes)?)
 }
 
-/// A new file whose first directory stands at `first`.
+/// Begins a file whose first directory stands at `first`.
 fn begun(rt: &impl AllocGlobal, order: Order, first: u32) -> Result<Vec<u8>, Fail> {
     let mut file = Vec::new(rt.alloc());
     let mark = match order {
@@ -91,7 +91,7 @@ fn put_directory(
     put_long(file, order, next)
 }
 
-/// The fields of a level with these in place of those of the same tags.
+/// Returns the fields of a level, with `changes` instead of those of the same tags.
 fn fields(rt: &impl AllocGlobal, changes: &[Entry]) -> Result<Vec<Entry>, Fail> {
     let mut entries = Vec::new(rt.alloc());
     for field in FIELDS {
@@ -108,7 +108,7 @@ fn fields(rt: &impl AllocGlobal, changes: &[Entry]) -> Result<Vec<Entry>, Fail> 
     Ok(entries)
 }
 
-/// A file of one level with these changes, and a few bytes behind its directory.
+/// Returns a file of one level with these changes, and a few bytes after its directory.
 fn file_with(
     rt: &impl AllocGlobal,
     order: Order,
@@ -123,7 +123,7 @@ fn file_with(
     Ok(file)
 }
 
-/// A walk over the whole file.
+/// Walks over the whole file.
 fn course_of(rt: &impl AllocGlobal, file: &[u8]) -> Result<Course, Fail>
     ensures { IfOk result (λ course. IsWalked file.now course.end) }
 {
@@ -133,7 +133,7 @@ fn course_of(rt: &impl AllocGlobal, file: &[u8]) -> Result<Course, Fail>
     }
 }
 
-/// The end of a walk over the whole file, or its fault.
+/// Returns the end of a walk over the whole file, or its fault.
 fn end_of(rt: &impl AllocGlobal, file: &[u8]) -> Result<Result<Walk, FileFault>, Fail>
     ensures { IfOk result (IsWalked file.now) }
 {
@@ -141,7 +141,7 @@ fn end_of(rt: &impl AllocGlobal, file: &[u8]) -> Result<Result<Walk, FileFault>,
     Ok(end)
 }
 
-/// The fault that a walk over the file answers.
+/// Returns the fault of a walk over the file.
 fn fault_of(rt: &impl AllocGlobal, file: &[u8]) -> Result<Option<FileFault>, Fail> {
     Ok(end_of(rt, file)?.err())
 }

@@ -1,4 +1,4 @@
--- Groups, one tile more.
+-- Groups with one more tile.
 use Rattle.std.specs.Prelude.{ℕ, List, [], ◌∷◌, if◌then◌else◌}
 use Rattle.extents.specs.Extent.{Extent}
 use Rattle.tiff_dir.specs.Query.{joins}

@@ -20,19 +20,19 @@ pixel_bytes l = pixel_size (layout_of l)
 abbrev pub picture_size : Level → Rectangle → ℕ
 picture_size l r = r.w * r.h * pixel_bytes l
 
--- where byte b of the pixel in column i and row j stands, in a picture of so many columns
+-- the place of byte `b` of the pixel in column `i` and row `j`, in a picture of `columns` columns
 abbrev pub place : Level → ℕ → ℕ → ℕ → ℕ → ℕ
 place l columns i j b = (j * columns + i) * pixel_bytes l + b
 
--- byte b of the pixel in column x and row y of the level, in the bytes of its tile
+-- byte `b` of the pixel in column `x` and row `y` of the level, in the bytes of its tile
 abbrev pub byte_in_tile : Level → List ℕ → ℕ → ℕ → ℕ → ℕ
 byte_in_tile l bytes x y b = slice_index bytes (place l l.tile_width (x % l.tile_width) (y % l.tile_length) b)
 
--- byte b of the pixel in column i and row j of the picture
+-- byte `b` of the pixel in column `i` and row `j` of the picture
 abbrev pub byte_at : Picture → ℕ → ℕ → ℕ → ℕ
 byte_at p i j b = slice_index p.bytes (place p.level p.rectangle.w i j b)
 
--- The pixels of the tile are those of its bytes, all others are as before.
+-- The pixels of the tile are those of its bytes. All others are as before.
 pub record IsBlit (tile : ℕ) (bytes : List ℕ) (old new : Picture) : Type 0 where
   pub level : new.level ≡ old.level
   pub rectangle : new.rectangle ≡ old.rectangle

@@ -24,11 +24,11 @@ abbrev pub lies_inside : List Level → Query → Bool
 lies_inside ls (Window x y w h p) = option_map_or (λ l. is_inside l x y w h) (given_in ls p) false
 lies_inside ls Info = false
 
--- the number of the smallest level in which it has so many columns
+-- the number of the last level in which the window has at least `columns` columns, or 0
 abbrev pub picked : List Level → (columns w : ℕ) → Level → ℕ
 picked ls columns w first = last_with_columns ls columns w first.width (length ls)
 
--- its rectangle
+-- the rectangle that the query asks for
 abbrev pub drawn : List Level → Query → Option asked.Rectangle
 drawn ls (Window x y w h (pick.Level n)) = Some (record { level = n; left = x; top = y; width = w; height = h })
 drawn ls (Window x y w h (pick.Columns columns)) = do

@@ -3,7 +3,7 @@ use Rattle.std.specs.Prelude.{ℕ, ◌+◌, if◌then◌else◌, List, [], ◌�
 use Rattle.extents.specs.Extent.{Extent}
 use Rattle.tiff_dir.specs.Query.{joins}
 
--- some tiles, and the range from the first one's first byte to the last one's last
+-- some tiles, and the range from the first byte of the first one to the last byte of the last one
 pub record Group : Type 0 where
   pub tiles : List ℕ
   pub range : Extent

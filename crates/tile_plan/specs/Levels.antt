@@ -12,7 +12,7 @@ use Rattle.tiff_dir.specs.Walk.{IsDescribed}
 use Rattle.tiff_dir.specs.Query as asked
 use Rattle.tile_plan.specs.declared.asked.Rectangle.{Rectangle}
 
--- these are the levels of the file, with the values that it has of each
+-- these are the levels of the file, each with the values that the file has of it
 pub record HasLevels (f : List ℕ) (ls : List Level) : Type 0 where
   pub levels : AreLevels f ls
   pub each : (n : ℕ) (l : Level) → slice_get ls n ≡ Some l → IsDescribed f n l
@@ -24,11 +24,11 @@ rectangle_of r = record { level = r.level; left = r.x; top = r.y; width = r.w; h
 abbrev pub is_inside : Level → ℕ → ℕ → ℕ → ℕ → Bool
 is_inside l x y w h = (nat_lt 0 w && nat_lt 0 h) && (nat_le (x + w) l.width && nat_le (y + h) l.length)
 
--- the level has at least so many columns of w columns of a level of width first
+-- the level has at least `columns` columns for `w` columns of a level of width `first`
 abbrev pub has_columns : ℕ → ℕ → ℕ → Level → Bool
 has_columns columns w first l = nat_le (columns * first) (l.width * w)
 
--- the number of the last such level of those before n, 0 if there is none
+-- the number of the last such level among those before `n`, or 0 if there is none
 abbrev pub last_with_columns : List Level → ℕ → ℕ → ℕ → ℕ → ℕ
 last_with_columns ls columns w first n =
     unwrap_or
@@ -57,6 +57,6 @@ pub record IsAsked (ls : List Level) (q : Query) (r : Rectangle) : Type 0 where
   pub good : (f : List ℕ) → HasLevels f ls → asked.is_refused f q ≡ false
   pub small : IsSomeAnd (slice_get ls r.level) (λ l. IsSmall l r)
 
--- the fault stands for the query in every file with these levels
+-- each file with these levels has the fault for the query
 abbrev pub IsRefusedBy : List Level → Query → FileFault → Type 0
 IsRefusedBy ls q fault = (f : List ℕ) → HasLevels f ls → IsFaultOfWindow f q fault

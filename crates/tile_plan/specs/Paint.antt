@@ -14,7 +14,7 @@ pub record IsPaint (tile : ℕ) (bytes : List ℕ) (old new : Picture) : Type 0 
   pub size : length plain ≡ plain_size (layout_of old.level)
   pub blit : IsBlit tile plain old new
 
--- no tile is unpacked from the bytes
+-- the bytes can't be unpacked to a tile
 pub record IsBad (bytes : List ℕ) (p : Picture) (fault : FileFault) : Type 0 where
   pub packet : fault ≡ Packet
   pub wrong : (plain : List ℕ) → IsUnpacked (layout_of p.level) bytes plain → ⊥

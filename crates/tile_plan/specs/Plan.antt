@@ -27,7 +27,7 @@ use Rattle.tile_plan.specs.Groups as groups
 use Rattle.tile_plan.specs.Groups.{grouped}
 use Rattle.tile_plan.specs.Levels.{rectangle_of}
 
--- where a tile stands in the file, as the level's arrays say
+-- where a tile stands in the file, by the level's arrays
 abbrev pub range_in : Order → Level → List ℕ → List ℕ → ℕ → Extent
 range_in order l offsets counts t =
     let size = size_of l.counts.kind in record {
@@ -35,34 +35,34 @@ range_in order l offsets counts t =
       len = number_in order (t * size) size counts;
     }
 
--- the tiles of the level that have a pixel of the rectangle, in ascending number
+-- the tiles of the level that have a pixel of the rectangle, in the order of their numbers
 abbrev pub tiles_of : Level → Rectangle → List ℕ
 tiles_of l r = tiles_in (grid_of l) (rectangle_of r)
 
 abbrev pub group_of : Group → groups.Group
 group_of g = record { tiles = g.tiles.items; range = extent_of_span g.span }
 
--- a tile of the level can't have so many bytes
+-- a tile of the level can't have `n` bytes
 abbrev pub IsWrongSize : Level → ℕ → Type 0
 IsWrongSize l n = (is_byte_count n ≡ false) ⊎ ((l.compression ≡ Plain) × ((n == plain_size (layout_of l)) ≡ false))
 
--- the range is what the arrays of level n of a file say of a tile
+-- the range is what the arrays of level `n` of a file say of a tile
 pub record IsRangeOf (f : List ℕ) (n t : ℕ) (r : Extent) : Type 0 where
   pub first : level_value f n TILE_OFFSETS t ≡ Some r.first
   pub len : level_value f n TILE_BYTE_COUNTS t ≡ Some r.len
 
--- what may be wrong with the range of a tile, in a file of so many bytes
+-- what may be wrong with the range of a tile, in a file of `file_length` bytes
 abbrev pub IsTileFault : Level → ℕ → Extent → FileFault → Type 0
 IsTileFault l file_length r TileSize = IsWrongSize l r.len
 IsTileFault l file_length r PastEnd = nat_lt file_length (r.first + r.len) ≡ true
 IsTileFault l file_length r _ = ⊥
 
--- the tiles' bytes stand one after the other, from one place to another
+-- the tiles' bytes follow each other without a gap, from one place to another
 abbrev pub Adjoin : (ℕ → Extent) → ℕ → List ℕ → ℕ → Type 0
 Adjoin range at [] end = at ≡ end
 Adjoin range at (t ∷ ts) end = ((range t).first ≡ at) × Adjoin range (at + (range t).len) ts end
 
--- a group is the bytes of its tiles, at most 1,048,576 of the file
+-- a group has the bytes of its tiles: at most 1,048,576, within the file
 pub record IsGroup (range : ℕ → Extent) (l : Level) (file_length : ℕ) (g : groups.Group) : Type 0 where
   pub tiles : All (λ t. t < tile_total (grid_of l)) g.tiles
   pub adjoin : Adjoin range g.range.first g.tiles (g.range.first + g.range.len)
@@ -100,13 +100,13 @@ pub record IsPlanned (f : List ℕ) (q : Query) (order : Order) (l : Level) (r :
   pub rectangle_is : rectangle f q ≡ Some (rectangle_of r)
   pub good : is_refused f q ≡ false
 
--- These are the groups whose ranges the query needs. Each tile ends inside the file, and none's byte count is wrong.
+-- These are the groups whose ranges the query needs. Each tile ends within the file, and no tile's byte count is wrong.
 pub record AreNeeded (f : List ℕ) (q : Query) (gs : List Group) : Type 0 where
   pub ranges : map (λ g. extent_of_span g.span) gs ≡ joined_after None (tile_ranges f q)
   pub inside : list_any (ends_past f) (flat_map option_to_list (tile_ranges f q)) ≡ false
   pub right : HasBadTile f q → ⊥
 
--- the fault that is told stands in the file for the query
+-- the file has this fault for the query
 abbrev pub IsErrorOf : List ℕ → Query → PlanError → Type 0
 IsErrorOf f q (File fault) = IsFaultOfWindow f q fault
 IsErrorOf f q Memory = ⊤

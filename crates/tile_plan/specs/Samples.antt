@@ -5,10 +5,10 @@ use Rattle.tiff_dir.specs.declared.order.Order.TheVariants.{Big}
 use Rattle.tiff_dir.specs.Number.{number_in}
 use Rattle.tiff_dir.specs.Profile.{sample_bytes}
 
--- sample k, where samples have so many bits
+-- sample `k`, if samples have `bits` bits
 abbrev pub sample_at : ℕ → List ℕ → ℕ → ℕ
 sample_at bits bytes k = number_in Big (k * sample_bytes bits) (sample_bytes bits) bytes
 
--- all of them
+-- all samples
 abbrev pub samples_in : ℕ → List ℕ → List ℕ
 samples_in bits bytes = map (sample_at bits bytes) (range_with_len 0 (length bytes / sample_bytes bits))

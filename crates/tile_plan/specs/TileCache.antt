@@ -14,7 +14,7 @@ use Rattle.tile_plan.specs.declared.tile_cache.Tile.{Tile}
 abbrev pub KeptTile : Type 0
 KeptTile = ℕ × Tile
 
--- those that a store has, if there is one
+-- the tiles of a store, if there is one
 abbrev pub tiles_in : Option (LruCache ℕ Tile) → List KeptTile
 tiles_in None = []
 tiles_in (Some store) = store.entries
@@ -24,15 +24,15 @@ pub record KeptTiles : Type 0 where
   pub most : ℕ
   pub tiles : List KeptTile
 
--- they are one and the same codec
+-- both are the same codec
 abbrev pub same_codec : Codec → Codec → Bool
 same_codec PackBits PackBits = true
 
--- what a tile stands for, by the codec, where its packed bytes are so many, and it has `size` bytes in rows of `row`
+-- what a tile stands for by the codec, if it has `len` packed bytes, and `size` bytes in rows of `row`
 abbrev pub plain_of : Codec → ℕ → ℕ → ℕ → Tile → Option (List ℕ)
 plain_of codec len row size t = cond (same_codec codec t.codec && nat_eq len t.len && nat_eq row t.row && nat_eq size (length t.plain.items)) (Some t.plain.items) None
 
--- and that of the tile that is kept at this place, if one is
+-- the same for the tile that is kept for the place `first`, if one is
 abbrev pub plain_at : Codec → ℕ → ℕ → ℕ → ℕ → KeptTiles → Option (List ℕ)
 plain_at codec first len row size k = option_and_then (plain_of codec len row size) (lookup (nat_eq first) k.tiles)
 
@@ -44,21 +44,21 @@ size_of_tile t = length t.1.plain.items
 abbrev pub size_of_tiles : List KeptTile → ℕ
 size_of_tiles tiles = sum_by size_of_tile tiles
 
--- those of so many bytes
+-- the tiles of `size` bytes
 abbrev pub tiles_of_size : ℕ → List KeptTile → List KeptTile
 tiles_of_size size tiles = filter (λ t. nat_eq (size_of_tile t) size) tiles
 
--- a tile in front of those of its size; where no more have room, the one that was used longest ago isn't among them
+-- a tile before those of its size; if there is no room for more, the one that was used longest ago is left out
 abbrev pub kept_with : KeptTile → KeptTiles → List KeptTile
 kept_with t k = t ∷ remove_entry (nat_eq t.0) (take (k.most / size_of_tile t - 1) (tiles_of_size (size_of_tile t) k.tiles))
 
--- the store has tiles of `size` bytes alone, and as many of them as have `most` bytes together
+-- the store has only tiles of `size` bytes, and room for as many of them as have `most` bytes together
 pub record IsStore (most size : ℕ) (store : LruCache ℕ Tile) : Type 0 where
   pub few : store.cap * size ≤ most
   pub room : store.cap ≡ most / size
   pub alike : All (λ t. size_of_tile t ≡ size) store.entries
 
--- those bytes of the file stand for the tile
+-- the packed bytes of the file stand for the tile
 abbrev pub IsTileOf : List ℕ → KeptTile → Type 0
 IsTileOf f t = PacksBy t.1.codec t.1.row (bytes_in f (record { first = t.0; len = t.1.len })) t.1.plain.items
 

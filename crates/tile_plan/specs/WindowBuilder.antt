@@ -26,7 +26,7 @@ pub record WindowState : Type 0 where
   pub given : ℕ
   pub picture : Picture
 
--- where the arrays say that a tile stands
+-- where a tile stands, by the arrays
 abbrev pub tile_extent : Arrays → ℕ → Extent
 tile_extent a = range_in a.order a.level a.offsets.items a.counts.items
 
@@ -34,7 +34,7 @@ tile_extent a = range_in a.order a.level a.offsets.items a.counts.items
 abbrev pub tiles_of_groups : List Group → List ℕ
 tiles_of_groups gs = flat_map (λ g. g.tiles.items) gs
 
--- tile t of level n of the file is on the picture: its pixels have the bytes that its segment stands for
+-- tile `t` of level `n` of the file is on the picture: its pixels have the bytes that its segment stands for
 pub record IsPainted (f : List ℕ) (n : ℕ) (p : Picture) (t : ℕ) : Type 0 where
   pub bytes : List ℕ
   pub bytes_are : segment f n t ≡ Some bytes
@@ -45,14 +45,14 @@ pub record IsPainted (f : List ℕ) (n : ℕ) (p : Picture) (t : ℕ) : Type 0 w
       → tile_at (grid_of p.level) (p.rectangle.x + i) (p.rectangle.y + j) ≡ t
       → byte_at p i j b ≡ byte_in_tile p.level plain (p.rectangle.x + i) (p.rectangle.y + j) b
 
--- the arrays are those of level n of the file
+-- the arrays are those of level `n` of the file
 pub record AreArraysOf (f : List ℕ) (n : ℕ) (a : Arrays) : Type 0 where
   pub order_is : order_of f ≡ Some a.order
   pub layout_is : level_layout f n ≡ Some (layout_of a.level)
   pub offsets_are : IsArrayOf f a.level.offsets a.offsets.items
   pub counts_are : IsArrayOf f a.level.counts a.counts.items
 
--- the groups are those that the arrays give for the picture's rectangle, in a file of so many bytes
+-- the groups are those that the arrays give for the picture's rectangle, in a file of `file_length` bytes
 pub record IsPlan (file_length : ℕ) (a : Arrays) (w : WindowState) : Type 0 where
   pub level : w.picture.level ≡ a.level
   pub are : AreGroups (tile_extent a) a.level w.picture.rectangle file_length w.groups
@@ -60,8 +60,8 @@ pub record IsPlan (file_length : ℕ) (a : Arrays) (w : WindowState) : Type 0 wh
 abbrev pub HasPlan : Arrays → WindowState → Type 0
 HasPlan a w = (file_length : ℕ) × IsPlan file_length a w
 
--- The work is the query's in this file: its groups are those that the query needs, and the tiles of those that were given
--- are on the picture.
+-- The work is the query's in this file. Its groups are those that the query needs, and the tiles of the groups that were given are on
+-- the picture.
 pub record IsUnderway (f : List ℕ) (q : Query) (a : Arrays) (w : WindowState) : Type 0 where
   pub planned : IsPlanned f q a.order a.level w.picture.rectangle (length f) a.offsets.items a.counts.items
   pub are : AreGroups (tile_extent a) a.level w.picture.rectangle (length f) w.groups
@@ -75,11 +75,11 @@ pub record IsUnderway (f : List ℕ) (q : Query) (a : Arrays) (w : WindowState) 
 abbrev pub IsWantedGroup : List ℕ → WindowState → List ℕ → Type 0
 IsWantedGroup f w bytes = IsSomeAnd (slice_get w.groups w.given) (λ g. bytes ≡ bytes_in f (extent_of_span g.span))
 
--- as many bytes as are wanted next
+-- `len` is the number of bytes that are wanted next
 abbrev pub IsGroupLen : WindowState → ℕ → Type 0
 IsGroupLen w len = IsSomeAnd (slice_get w.groups w.given) (λ g. len ≡ (extent_of_span g.span).len)
 
--- tiles that stand one after the other and have so many bytes, of which plain ones are each as long as its samples
+-- tiles that follow each other without a gap and have `len` bytes; each that isn't packed is as long as its samples
 pub record IsWhole (a : Arrays) (ts : List ℕ) (len : ℕ) : Type 0 where
   pub within : All (λ t. t < tile_total (grid_of a.level)) ts
   pub plain : All (λ t. a.level.compression ≡ Plain → (tile_extent a t).len ≡ plain_size (layout_of a.level)) ts
@@ -91,7 +91,7 @@ pub record AreBytesOf (f : List ℕ) (first : ℕ) (bytes : List ℕ) : Type 0 w
   pub are : bytes ≡ slice_range f first (first + length bytes)
   pub inside : first + length bytes ≤ length f
 
--- no tile is unpacked from the bytes of one of these, and the fault says so
+-- the bytes of one of these tiles can't be unpacked, and the fault says so
 pub record HasDamage (f : List ℕ) (n : ℕ) (l : Level) (ts : List ℕ) (fault : FileFault) : Type 0 where
   pub tile : ℕ
   pub among : IsAmong ts tile

@@ -1,4 +1,4 @@
--- What others know of the transports here.
+-- What callers know of the transports of this crate.
 use Rattle.std.specs.Prelude.{ℕ, Bool, ◌==◌, ◌⊎◌, if◌then◌else◌, List, [], ◌∷◌, drop, Some}
 use Rattle.http_range.specs.Book.{Book}
 use Rattle.http_range.specs.Honest.{IsFront}
@@ -11,7 +11,7 @@ use Rattle.transports.specs.declared.scripted.Fate.{Fate}
 use Rattle.transports.specs.declared.scripted.Scripted.{Scripted}
 use Rattle.transports.specs.InMemory.{IsAnswerAbout, StandsIn}
 
--- the server, and the name that it is asked for
+-- the server, and the name that is asked for
 abbrev pub served_state : InMemory → ServerState
 served_state s = s.server.now
 
@@ -25,8 +25,8 @@ exchanges_of s = s.exchanges
 abbrev pub has_lost : InMemory → Bool
 has_lost s = s.has_lost
 
--- of a server that is replaced: the servers before and after, the name, how many exchanges are left to the first one, those so far, and
--- whether the answer to one was lost
+-- Of a server that is replaced: the servers before and after, and the name. Then how many exchanges are left to the first server, how many
+-- were made so far, and whether the answer to one was lost.
 abbrev pub states_of : Replaced → List ServerState
 states_of s = s.before.now ∷ s.after.now ∷ []
 
@@ -46,7 +46,7 @@ lost_of s = s.has_lost
 abbrev pub state_in_turn : Replaced → ServerState
 state_in_turn s = if s.left == 0 then s.after.now else s.before.now
 
--- what either server has under the name stands in the book
+-- what each of the two servers has under the name is in the book
 abbrev pub StandInBoth : Replaced → Book → Type 0
 StandInBoth s book = StandsIn s.before.now.catalogue s.name.now book × StandsIn s.after.now.catalogue s.name.now book
 

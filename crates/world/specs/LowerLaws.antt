@@ -1,4 +1,4 @@
--- The laws of the crates below that the truth of a log rests on.
+-- The laws of lower crates on which the truth of a log rests.
 use Rattle.std.specs.Prelude.{◌≡◌, ℕ, List}
 use Rattle.tiff_dir.specs.declared.query.Query.{Query}
 use Rattle.tiff_dir.specs.Faulty.{IsWindow}

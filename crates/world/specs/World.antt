@@ -1,5 +1,5 @@
--- What a schedule makes of the world. It knows of no client but its name and its last query, and of what was logged
--- only which answers were sent.
+-- What a schedule makes of the world. Of a client it has the name and the last query alone. Of the log it has only which answers
+-- were sent.
 use Rattle.std.specs.Prelude.{◌≡◌, ℕ, zero, suc, ◌+◌, ◌↔◌, ⊤, Bool, true, nat_lt, if◌then◌else◌, List, [], ◌∷◌, ◌++◌, codes, Option, Some, None, IfSome, IsSomeAnd, slice_get, option_and_then}
 use Rattle.std.specs.Global.{Vec}
 use Rattle.std.specs.Option.{option_map, option_map_or, option_to_list}
@@ -26,7 +26,7 @@ use Rattle.world.specs.declared.event.Effect.{Effect}
 use Rattle.world.specs.declared.event.Effect.TheVariants as effects
 use Rattle.world.specs.declared.event.Entry.{Entry}
 
--- a client, by the name that it was made with and the query of its last opening
+-- a client, by the name that it was made with, and the query of its last opening
 pub record Seen : Type 0 where
   pub name : List ℕ
   pub query : Option Query
@@ -39,7 +39,7 @@ pub record World : Type 0 where
   pub sent : List Answer  -- the answers that were ever sent
   pub clients : List Seen
 
--- it begins with epoch 0 and no file
+-- a world begins in epoch 0, without files
 abbrev pub start : World
 start = record { epoch = 0; count = 0; catalogue = []; book = []; sent = []; clients = [] }
 
@@ -47,7 +47,7 @@ start = record { epoch = 0; count = 0; catalogue = []; book = []; sent = []; cli
 abbrev pub host : List ℕ
 host = codes "cog.test"
 
--- what an accepted publication is: its tag has the epoch, and its number among the epoch's publications
+-- the publication, if it is accepted; its ETag has the epoch, and its number among the epoch's publications
 abbrev pub next_of : World → List ℕ → List ℕ → Publication
 next_of w name file = record { name = name; tag = publication_tag w.epoch (w.count + 1); file = file }
 
@@ -60,13 +60,13 @@ abbrev pub made_by : World → List ℕ → Option ClientError → World
 made_by w name None = record w { clients = w.clients ++ record { name = name; query = None } ∷ [] }
 made_by w name (Some refusal) = w
 
--- client i is asked a query, if it is there
+-- client `i` is asked the query `q`, if there is such a client
 abbrev pub opened : List Seen → ℕ → Query → List Seen
 opened [] i q = []
 opened (s ∷ ss) zero q = record s { query = Some q } ∷ ss
 opened (s ∷ ss) (suc i) q = s ∷ opened ss i q
 
--- what an event makes of the world, whatever is answered; only a greater epoch changes the epoch, and its server has no files
+-- What an event makes of the world, whatever is answered. Only a greater epoch changes the epoch, and its server has no files.
 abbrev pub scheduled : World → Event → World
 scheduled w (Publish name file) = publish_by w (next_of w name.items file.items) (refusal_of w.count w.catalogue name.items file.items)
 scheduled w (Epoch e) = if nat_lt w.epoch e then record w { epoch = e; count = 0; catalogue = [] } else w
@@ -74,7 +74,7 @@ scheduled w (NewClient name blocks) = made_by w name.items (client_refusal host 
 scheduled w (Open i q) = record w { clients = opened w.clients i q }
 scheduled w e = w
 
--- the answer that an event has sent
+-- the answer that was sent in an event, if one was
 abbrev pub answer_in : Effect → Option Answer
 answer_in (effects.Answered number answer) = Some answer
 answer_in (effects.Asked a) = Some a.answer
@@ -82,7 +82,7 @@ answer_in (effects.Exchanged a what) = Some a.answer
 answer_in (effects.Checked k) = Some k.answer
 answer_in effect = None
 
--- The world after an event: an answer that was sent is kept, whoever asked.
+-- The world after an event. An answer that was sent is kept, whoever asked for it.
 abbrev pub after : World → Event → Effect → World
 after w e effect = record (scheduled w e) { sent = w.sent ++ option_to_list (answer_in effect) }
 
@@ -91,15 +91,15 @@ after_all w [] ns = w
 after_all w (e ∷ es) [] = w
 after_all w (e ∷ es) (n ∷ ns) = after_all (after w e n.effect) es ns
 
--- This holds at each event of a schedule, with the world before it and its entry.
+-- There is an entry for each event, and `P` holds at each event, with the world before it and its entry.
 abbrev pub AtEach : (World → Event → Entry → Type 0) → World → List Event → List Entry → Type 0
 AtEach P w [] [] = Unit {0}
 AtEach P w (e ∷ es) (n ∷ ns) = P w e n × AtEach P (after w e n.effect) es ns
 AtEach P w es ns = ⊥
 
--- ---- what is told
+-- ---- what is reported
 
--- the client of an event
+-- the client that an event names, if it names one
 abbrev pub client_of : Event → Option ℕ
 client_of (Open i q) = Some i
 client_of (Forget i) = Some i
@@ -109,43 +109,43 @@ client_of (Exchange i) = Some i
 client_of (Check i) = Some i
 client_of e = None
 
--- The report of a client is true of what is published, for the client's name and its last query.
+-- The client is there, and the report is true of what is published, for the client's name and last query.
 abbrev pub IsTrueAt : World → Option ℕ → Report → Type 0
 IsTrueAt w client r = IsSomeAnd (option_and_then (slice_get w.clients) client) (λ s. IsTrueReport r s.name s.query w.book)
 
--- The report of an entry, if there is one, is true of what is published when it is told.
+-- The report of an entry, if there is one, is true of what is published after the event.
 abbrev pub IsTrueEntry : World → Event → Entry → Type 0
 IsTrueEntry w e n = IfSome n.report (IsTrueAt (after w e n.effect) (client_of e))
 
 abbrev pub IsToldIn : Report → List Entry → Type 0
 IsToldIn r ns = (i : ℕ) × IsSomeAnd (slice_get ns i) (λ n. n.report ≡ Some r)
 
--- the sides, the samples of a pixel, the bits of a sample, and all samples
+-- the width and height, the samples of a pixel, the bits of a sample, and all samples
 abbrev pub shown : Window → ℕ × ℕ × ℕ × ℕ × List ℕ
 shown v = (v.w, v.h, v.samples, v.bits, samples_in v.bits v.pixels.items)
 
--- both are equal windows, or both tell the same of the file's levels, keys and geo fields, or both are faults
+-- Both are equal windows. Or both have the same levels, keys and geo fields. Or both are faults.
 abbrev pub SayTheSame : Outcome → Outcome → Type 0
 SayTheSame (outcomes.Window a) (outcomes.Window b) = shown a ≡ shown b
 SayTheSame (outcomes.Fault fault) (outcomes.Fault other) = ⊤
 SayTheSame a b = said_of a ≡ said_of b
 
--- Reports of one tag for one query say the same.
+-- Reports of one ETag for one query say the same.
 abbrev pub AreAlike : List Entry → Type 0
 AreAlike ns = (r s : Report) → IsToldIn r ns → IsToldIn s ns → r.tag ≡ s.tag → r.query ≡ s.query → SayTheSame r.outcome s.outcome
 
--- ---- what is kept and what is checked
+-- ---- which answers are kept, and what checks say
 
--- the answer carries the tag of the file of this name, or none
+-- the answer has the ETag of the file of this name, or no ETag
 abbrev pub is_for : Answer → List ℕ → Bool
 is_for a name = option_map_or (λ (other : Vec ℕ). bytes_eq other.items name) a.name true
 
--- the answer is honest for each name that it is for, in every later book
+-- the answer is honest for each name that it is for, in this book and in every later one
 abbrev pub StaysHonest : Answer → Book → Type 0
 StaysHonest a book =
     (name : List ℕ) (later : Book) → is_for a name ≡ true → Includes later book → IsHonest a.text.items name later
 
--- What an event has sent is honest, whatever is published later.
+-- The answer that was sent in an event, if one was, is honest, whatever is published later.
 abbrev pub IsHonestEntry : World → Event → Entry → Type 0
 IsHonestEntry w e n = IfSome (answer_in n.effect) (λ a. StaysHonest a w.book)
 
@@ -158,7 +158,7 @@ abbrev pub check_in : Effect → Option AnsweredCheck
 check_in (effects.Checked k) = Some k
 check_in effect = None
 
--- The check of an entry says "same" exactly where the catalogue that answered it has the tag under the client's name.
+-- The check of an entry says "same" exactly where the catalogue that answered it has the ETag under the client's name.
 abbrev pub IsExactEntry : World → Event → Entry → Type 0
 IsExactEntry w e n = IfSome (check_in n.effect) (λ k. IsSomeAnd (slice_get w.clients k.client) (λ s.
     (k.current ≡ Same) ↔ (option_map (λ p. p.tag) (published s.name w.catalogue) ≡ Some k.tag)))

@@ -11,7 +11,7 @@ use std::process::Abort;
 use std::test::Fail;
 use world::{Event, Log, run, run_cut};
 
-/// The file f3, whose packed tile ends with fifteen copies in place of sixteen.
+/// Returns the file f3, whose packed tile ends with fifteen copies instead of sixteen.
 fn damaged(alloc: Global) -> Result<Vec<u8>, Fail> {
     let mut file = f3(alloc)?;
     if let Some(place) = file.get_mut(1454) {
@@ -20,7 +20,7 @@ fn damaged(alloc: Global) -> Result<Vec<u8>, Fail> {
     Ok(file)
 }
 
-/// The events of a script, whose files are fixtures.
+/// Returns the events of a script, whose files are fixtures.
 fn events_of(alloc: Global, text: &str) -> Result<Vec<Event>, Fail> {
     let mut files = Loaded::new(alloc);
     files.add(b"f1.tif", f1(alloc)?)?;
@@ -33,7 +33,7 @@ fn events_of(alloc: Global, text: &str) -> Result<Vec<Event>, Fail> {
     Ok(script(alloc, text.as_bytes(), &mut files)?)
 }
 
-/// The log of a script.
+/// Returns the log of a script.
 fn log_of(alloc: Global, text: &str) -> Result<Log, Fail> {
     let events = events_of(alloc, text)?;
     let mut log = Log::new(alloc);
@@ -41,10 +41,10 @@ fn log_of(alloc: Global, text: &str) -> Result<Log, Fail> {
     Ok(log)
 }
 
-/// Sizes of the pieces in which answers come: the head of an answer has about 171 bytes, a block 16,384.
+/// Sizes of the pieces in which answers come. The head of an answer has about 171 bytes, and a block has 16,384.
 const PIECES: [usize; 5] = [1, 7, 171, 16_384, 100_000];
 
-/// Whether the log is that of the events with answers in pieces of this size.
+/// Returns whether the log is that of the events with answers in pieces of the size `piece`.
 fn is_log_of_pieces(
     alloc: Global,
     events: &[Event],
@@ -56,7 +56,7 @@ fn is_log_of_pieces(
     Ok(log_text(alloc, &cut)? == log_text(alloc, log)?)
 }
 
-/// The log of a script, which is expected to be the same whether answers come whole or in pieces.
+/// Returns the log of a script. Expects the same one whether answers come whole or in pieces.
 fn log_however_cut(rt: &(impl Abort + AllocGlobal), text: &str) -> Result<Log, Fail> {
     let log = log_of(rt.alloc(), text)?;
     let events = events_of(rt.alloc(), text)?;
@@ -77,10 +77,10 @@ fn expect(rt: &(impl Abort + AllocGlobal), text: &str, want: &str) -> Result<(),
     Ok(())
 }
 
-/// A file that is published as `a` in epoch 1, and the events of a script after that with the lines that the log has of each.
+/// A file that is published as `a` in epoch 1, and the events of a script after that, each with its lines in the log.
 type Course = (&'static str, &'static [(&'static str, &'static str)]);
 
-/// The text of a script, and of its log.
+/// Returns the text of a script, and that of its log.
 fn texts_of(alloc: Global, (file, steps): Course) -> Result<(String, String), Fail> {
     let mut script = format!(in alloc; "epoch 1\npublish a {file}\n")?;
     let mut log = String::from_str(alloc, "epoch 1\npublished \"1-1\"\n")?;

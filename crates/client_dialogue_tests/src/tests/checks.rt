@@ -24,7 +24,7 @@ const INTERIM: &str =
 
 const MISSING: &str = "HTTP/1.1 404 Not Found\r\nContent-Length: 0\r\n\r\n";
 
-/// The connection is made, and brings the text. Then it ends.
+/// A row has the text that a connection brings before it ends, what the check then says, and the status code.
 type Row = (&'static str, Current, u16);
 
 const NO_ANSWER: Current = Current::Unknown(Unknown::NotUsed(Why::Cut));
@@ -52,7 +52,7 @@ const ROWS: [Row; 9] = [
 /// The steps of a check, without the last one.
 const STEPS: [CheckStep; 3] = [CheckStep::Connect, CheckStep::Write, CheckStep::Read];
 
-/// A client that has the revision `"1"`.
+/// Makes a client that has the revision `"1"`.
 fn client_with_a_revision(alloc: Global) -> Result<Client, Fail> {
     let mut client = client_of_a(alloc)?;
     client.open(Query::Info);
@@ -63,21 +63,21 @@ fn client_with_a_revision(alloc: Global) -> Result<Client, Fail> {
     Ok(client)
 }
 
-/// A check, and what its connection brings. It reads, and writes, at most `size` bytes at a time.
+/// A check, and the bytes that its connection brings. It reads and writes at most `size` bytes at a time.
 struct Checker<'a> {
     check: Check,
-    /// The steps, without `More` and the last one, and without a step that is as the one before.
+    /// The steps, without `More` and the last one. A step that repeats the one before is left out.
     steps: Vec<CheckStep>,
-    /// What the check says, once it is over.
+    /// What the check says when it is over.
     said: Option<Current>,
     written: Vec<u8>,
-    /// What is to be taken, and how much of it was read.
+    /// The bytes that are still to be taken, and how many of them were read.
     rest: &'a [u8],
     read: usize,
     size: usize,
 }
 
-// Written out, it is one call wherever a checker is let go.
+// Written out, so that it is one call wherever a checker is dropped.
 impl<'a> Drop for Checker<'a> {
     fn drop(self) {
         let Checker {
@@ -93,7 +93,7 @@ impl<'a> Drop for Checker<'a> {
 }
 
 impl<'a> Checker<'a> {
-    /// Makes one of which the connection brings `text`, and then ends. Fails where the client has no revision.
+    /// Makes a checker whose connection brings `text` and then ends. Fails where the client has no revision.
     fn new(
         alloc: Global,
         client: &Client,
@@ -112,7 +112,7 @@ impl<'a> Checker<'a> {
         })
     }
 
-    /// Notes a step, unless it is `More`, the last one, or as the one before.
+    /// Notes a step, unless it is `More`, the last one, or the same as the one before.
     fn note(&mut self, step: CheckStep) -> Result<(), Fail> {
         let is_left_out = matches!(step, CheckStep::More | CheckStep::Checked(_));
         if !is_left_out && self.steps.as_slice().last() != Some(&step) {
@@ -129,7 +129,7 @@ impl<'a> Checker<'a> {
         Ok(())
     }
 
-    /// Writes what waits.
+    /// Writes waiting bytes, at most `size` of them.
     fn write(&mut self) -> Result<(), Fail> {
         let waiting = self.check.waiting();
         let count = waiting.len().min(self.size);
@@ -138,7 +138,7 @@ impl<'a> Checker<'a> {
         Ok(())
     }
 
-    /// Reads bytes. Where none are left the connection is gone.
+    /// Reads bytes. Where none are left, the connection is gone.
     fn read(&mut self) {
         self.read = self.size.min(self.rest.len());
         if self.read == 0 {
@@ -146,7 +146,7 @@ impl<'a> Checker<'a> {
         }
     }
 
-    /// Hands on what was read, and does the next step.
+    /// Hands on the bytes that were read, and does the next step.
     fn go_on(&mut self, client: &Client) -> Result<(), Fail> {
         let bytes = self.rest.get(..self.read).unwrap_or(&[]);
         let progress = self.check.go_on(client, bytes)?;
@@ -175,7 +175,7 @@ impl<'a> Checker<'a> {
     }
 }
 
-/// Compares what was done with what is expected.
+/// Compares the steps, the result, the status code and the written bytes with those that are expected.
 fn expect_checked(rt: &impl Abort, checker: &Checker<'_>, row: &Row) {
     let (text, said, status) = *row;
     let size = checker.size;
@@ -185,7 +185,7 @@ fn expect_checked(rt: &impl Abort, checker: &Checker<'_>, row: &Row) {
     expect_eq!(rt; checker.written.as_slice() == REQUEST.as_bytes(), true, "{text:?}, in pieces of {size}");
 }
 
-/// Does what a row says, in pieces of at most `size` bytes.
+/// Runs the check of a row in pieces of at most `size` bytes, and compares.
 fn expect_row(
     rt: &(impl Abort + AllocGlobal),
     client: &Client,
@@ -208,7 +208,7 @@ fn checks(rt: HostRuntime) -> Result<(), Fail> {
     Ok(())
 }
 
-/// No connection can be made.
+/// Expects that a check learns nothing where no connection can be made.
 #[test]
 fn checks_nothing_without_a_connection(rt: HostRuntime) -> Result<(), Fail> {
     let client = client_with_a_revision(rt.alloc())?;
@@ -223,7 +223,7 @@ fn checks_nothing_without_a_connection(rt: HostRuntime) -> Result<(), Fail> {
     Ok(())
 }
 
-/// A connection that is made is there, until it is gone.
+/// Expects that a connection that was made is open until it is gone.
 #[test]
 fn opens_a_connection(rt: HostRuntime) -> Result<(), Fail> {
     let client = client_with_a_revision(rt.alloc())?;
@@ -236,7 +236,7 @@ fn opens_a_connection(rt: HostRuntime) -> Result<(), Fail> {
     Ok(())
 }
 
-/// A client without a revision has nothing to check.
+/// Expects that a client without a revision has nothing to check.
 #[test]
 fn checks_no_client_without_a_revision(rt: HostRuntime) -> Result<(), Fail> {
     let client = client_of_a(rt.alloc())?;
@@ -245,7 +245,7 @@ fn checks_no_client_without_a_revision(rt: HostRuntime) -> Result<(), Fail> {
     Ok(())
 }
 
-/// What stands there when a check begins is of another connection.
+/// Expects that bytes that stand there when a check begins are dropped: they are of another connection.
 #[test]
 fn drops_what_another_connection_left(rt: HostRuntime) -> Result<(), Fail> {
     let client = client_with_a_revision(rt.alloc())?;

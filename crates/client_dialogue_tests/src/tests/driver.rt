@@ -1,47 +1,47 @@
-//! A driver over connections in memory. What each of them brings is written down.
+//! A driver over connections in memory. A script says what each of them brings.
 use client_dialogue::{Dialogue, Loss, Step};
 use cog_client::{Client, Query};
 use std::alloc::Global;
 use std::test::Fail;
 
-/// What a connection brings, from one look or read to the next.
+/// What a connection brings between one look or read and the next.
 #[derive(Clone, Copy)]
 pub enum Comes {
     /// Nothing, when the driver looks.
     Nothing,
     /// A text.
     Text(&'static str),
-    /// A text, and after it the bytes of the file from a first position to before another.
+    /// A text, and after it bytes of the file: from the first position to before the second.
     Part(&'static str, usize, usize),
     /// The end of the connection.
     Lost(Loss),
 }
 
-/// What connections bring, one after another. After the last one none can be made.
+/// The scripts of connections, one after another. After the last one no connection can be made.
 pub type Connections = &'static [&'static [Comes]];
 
-/// A driver of one client. It reads, and writes, at most `size` bytes at a time.
+/// A driver of one client. It reads and writes at most `size` bytes at a time.
 pub struct Driver<'a> {
     pub client: Client,
     pub dialogue: Dialogue,
-    /// The steps, without `More`, and without a step that is as the one before.
+    /// The steps without `More`. A step that repeats the one before is left out.
     pub steps: Vec<Step>,
-    /// What was written, on all connections.
+    /// The bytes that were written, on all connections.
     pub written: Vec<u8>,
-    /// How many connections were made.
+    /// The number of connections that were made.
     pub made: usize,
     file: &'a [u8],
     size: usize,
     connections: Connections,
-    /// How much of what the last connection brings was begun.
+    /// The number of items of the last connection's script that were begun.
     begun: usize,
-    /// What the connection brought, how much of it was read, and how much of that was taken.
+    /// The bytes that the connection brought, how many of them were read, and how many were taken.
     came: Vec<u8>,
     read: usize,
     taken: usize,
 }
 
-// Written out, it is one call wherever a driver is let go.
+// Written out, so that it is one call wherever a driver is dropped.
 impl<'a> Drop for Driver<'a> {
     fn drop(self) {
         let Driver {
@@ -61,7 +61,7 @@ impl<'a> Drop for Driver<'a> {
     }
 }
 
-/// A client of the file `a` that keeps its connections.
+/// Makes a client of the file `a` that keeps its connections.
 pub fn client_of_a(alloc: Global) -> Result<Client, Fail> {
     let mut client = Client::new(alloc, b"cog.test", b"a", 66)?;
     client.keep_open();
@@ -69,7 +69,7 @@ pub fn client_of_a(alloc: Global) -> Result<Client, Fail> {
 }
 
 impl<'a> Driver<'a> {
-    /// Makes one for the query `query` of the file `file`.
+    /// Makes a driver for the query `query` of the file `file`.
     pub fn new(
         alloc: Global,
         query: Query,
@@ -95,7 +95,7 @@ impl<'a> Driver<'a> {
         })
     }
 
-    /// Notes a step, unless it is `More` or as the one before. Returns whether another one follows.
+    /// Notes a step, unless it is `More` or the same as the one before. Returns whether another one follows.
     fn note(&mut self, step: Step) -> Result<bool, Fail> {
         if step != Step::More && self.steps.as_slice().last() != Some(&step) {
             self.steps.push(step)?;
@@ -112,7 +112,7 @@ impl<'a> Driver<'a> {
         self.note(step)
     }
 
-    /// Makes the next connection. What the one before has left is dropped.
+    /// Makes the next connection. What is left of the one before is dropped.
     fn connect(&mut self) -> Result<bool, Fail> {
         self.came.clear();
         self.read = 0;
@@ -128,7 +128,7 @@ impl<'a> Driver<'a> {
         Ok(true)
     }
 
-    /// Writes what waits.
+    /// Writes waiting bytes, at most `size` of them.
     fn write(&mut self) -> Result<bool, Fail> {
         if !self.dialogue.is_asked() || !self.dialogue.is_open() {
             return Ok(false);
@@ -140,7 +140,7 @@ impl<'a> Driver<'a> {
         Ok(true)
     }
 
-    /// Lets the connection bring a text, and the file's bytes from `first` to before `end`.
+    /// Lets the connection bring a text, and after it the bytes of the file from `first` to before `end`.
     fn bring(&mut self, text: &str, first: usize, end: usize) -> Result<bool, Fail> {
         self.came.clear();
         self.came.extend_from_slice(text.as_bytes())?;
@@ -151,7 +151,7 @@ impl<'a> Driver<'a> {
         Ok(true)
     }
 
-    /// Returns what the last connection brings next.
+    /// Returns the next item of the last connection's script.
     fn next(&mut self) -> Option<Comes> {
         let last = self.made.checked_sub(1)?;
         let script = self.connections.get(last)?;
@@ -180,7 +180,7 @@ impl<'a> Driver<'a> {
         }
     }
 
-    /// Hands on what was read, and does the next step. Returns whether another one follows.
+    /// Hands on the bytes that were read, and does the next step. Returns whether another one follows.
     fn go_on(&mut self) -> Result<bool, Fail> {
         let bytes = self.came.get(self.taken..self.read).unwrap_or(&[]);
         let progress = self.dialogue.go_on(&mut self.client, bytes)?;

@@ -1,4 +1,4 @@
-//! A second query, after the connection went on after the answer to the first.
+//! A second query. The connection went on after the answer to the first one.
 use super::driver::Comes::{Lost, Nothing, Part, Text};
 use super::driver::Driver;
 use super::rows::{
@@ -11,7 +11,7 @@ use cog_client::Query;
 use fixtures_support::f1;
 use std::test::Fail;
 
-/// Where the second request goes: on the connection that is kept, or on a new one (RFC 9112, sections 9.2 and 9.3).
+/// Rows of the place of the second request: on the kept connection, or on a new one (RFC 9112, sections 9.2 and 9.3).
 const PLACES: [Row; 4] = [
     Row {
         name: "a kept connection",
@@ -74,7 +74,8 @@ const ONCE_MORE: [client_dialogue::Step; 15] = [
     Over,
 ];
 
-/// The second request is sent once more, on a new connection, within one exchange (RFC 9112, section 9.3.1; RFC 9110, section 15.5.9).
+/// Rows where the second request is sent once more, on a new connection, within one exchange (RFC 9112, section 9.3.1; RFC 9110, section
+/// 15.5.9).
 const SENT_ONCE_MORE: [Row; 4] = [
     Row {
         name: "an end before the answer",
@@ -132,7 +133,7 @@ fn sends_requests_once_more(rt: HostRuntime) -> Result<(), Fail> {
     expect_rows(&rt, Query::Info, &f1(rt.alloc())?, &SENT_ONCE_MORE)
 }
 
-/// The second request isn't sent again: its exchange is over. No retry is tried again (RFC 9112, section 9.3.1).
+/// Rows where the second request isn't sent again: its exchange is over. A retry isn't retried (RFC 9112, section 9.3.1).
 const NOT_SENT_AGAIN: [Row; 4] = [
     Row {
         name: "an end in the head",
@@ -205,7 +206,7 @@ fn sends_no_request_again(rt: HostRuntime) -> Result<(), Fail> {
     expect_rows(&rt, Query::Info, &f1(rt.alloc())?, &NOT_SENT_AGAIN)
 }
 
-/// A query begins while the answer to the one before is under way. That answer is dropped with its connection.
+/// Rows where a query begins while the answer to the one before is under way. That answer is dropped with its connection.
 const BEGUN_ANEW: [Row; 2] = [
     Row {
         name: "before the answer",
@@ -238,7 +239,7 @@ fn begins_anew(rt: HostRuntime) -> Result<(), Fail> {
     expect_rows(&rt, Query::Info, &f1(rt.alloc())?, &BEGUN_ANEW)
 }
 
-/// What callers see of an exchange that is under way, and of one that was dropped.
+/// Expects what callers see of an exchange that is under way, and of one that was dropped.
 #[test]
 fn drops_what_is_under_way(rt: HostRuntime) -> Result<(), Fail> {
     let file = f1(rt.alloc())?;
@@ -254,7 +255,7 @@ fn drops_what_is_under_way(rt: HostRuntime) -> Result<(), Fail> {
     Ok(())
 }
 
-/// A connection that is kept ends where the caller ends it.
+/// Expects that a kept connection ends where the caller ends it.
 #[test]
 fn ends_connections(rt: HostRuntime) -> Result<(), Fail> {
     let file = f1(rt.alloc())?;

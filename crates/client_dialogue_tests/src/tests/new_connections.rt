@@ -1,4 +1,4 @@
-//! Answers on a new connection, and connections that are lost before one.
+//! Answers on a new connection, and connections that are lost before an answer.
 use super::driver::Comes::{Lost, Nothing, Part, Text};
 use super::rows::{
     CHUNKED, CLOSING, CODED, CUT, FIRST, HEAD, LENGTH, MISSING, NO_HEAD, OLDER, OTHER, Row,
@@ -16,21 +16,21 @@ const INTERIM: &str = concat!(
     "HTTP/1.1 206 Partial Content\r\nETag: \"1\"\r\nContent-Range: bytes 0-377/378\r\nContent-Length: 378\r\n\r\n"
 );
 
-/// An answer 404 of three bytes, and what looks like another answer.
+/// An answer of status 404 with a body of three bytes, and after it bytes that look like another answer.
 const SMUGGLING: &str = concat!(
     "HTTP/1.1 404 Not Found\r\nContent-Length: 3\r\n\r\nabc",
     "HTTP/1.1 206 Partial Content\r\nETag: \"2\"\r\nContent-Range: bytes 0-377/378\r\nContent-Length: 378\r\n\r\n"
 );
 
-/// A space before the colon (RFC 9112, section 5.1).
+/// An answer with a space before a colon (RFC 9112, section 5.1).
 const SPACED: &str =
     "HTTP/1.1 206 Partial Content\r\nETag: \"1\"\r\nContent-Range: bytes 0-377/378\r\nContent-Length : 378\r\n\r\n";
 
-/// The request of a client that has the revision `"1"`, and no block of it.
+/// The request of a client that has the revision `"1"` and no block of it.
 const REST: &str =
     "GET /a HTTP/1.1\r\nHost: cog.test\r\nRange: bytes=0-377\r\nIf-Range: \"1\"\r\n\r\n";
 
-/// Answers that are used (RFC 9112, sections 9.3 and 9.6; RFC 9110, section 15.2).
+/// Rows of answers that are used (RFC 9112, sections 9.3 and 9.6; RFC 9110, section 15.2).
 const USED: [Row; 4] = [
     Row {
         name: "an answer",
@@ -79,7 +79,7 @@ fn uses_answers(rt: HostRuntime) -> Result<(), Fail> {
     expect_rows(&rt, Query::Info, &f1(rt.alloc())?, &USED)
 }
 
-/// Answers that aren't used (docs/PROFILE.md, *How an answer is read*). Their connections are over.
+/// Rows of answers that aren't used (docs/PROFILE.md, *How an answer is read*). Their connections are over.
 const UNUSED: [Row; 4] = [
     Row {
         name: "404, and what looks like an answer",
@@ -130,7 +130,8 @@ fn ends_with_unused_answers(rt: HostRuntime) -> Result<(), Fail> {
     expect_rows(&rt, Query::Info, &f1(rt.alloc())?, &UNUSED)
 }
 
-/// Connections that end before a head is whole (RFC 9112, sections 9.2 and 9.5). On a new connection no request is sent once more.
+/// Rows of connections that end before a head is whole (RFC 9112, sections 9.2 and 9.5). A request on a new connection isn't sent once
+/// more.
 const WITHOUT_A_HEAD: [Row; 5] = [
     Row {
         name: "bytes before the request",
@@ -189,7 +190,7 @@ fn ends_without_a_head(rt: HostRuntime) -> Result<(), Fail> {
     expect_rows(&rt, Query::Info, &f1(rt.alloc())?, &WITHOUT_A_HEAD)
 }
 
-/// Connections that end in the midst of an answer: its front is taken. The next exchange has a connection of its own.
+/// Rows of connections that end in the midst of an answer. Its front is taken. The next exchange has a connection of its own.
 const FRONTS: [Row; 2] = [
     Row {
         name: "an end in the head",

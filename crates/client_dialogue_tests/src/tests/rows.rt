@@ -1,4 +1,4 @@
-//! A row of a table: what connections bring, and what is expected of the driver's steps.
+//! The rows of tables: what connections bring, and which steps of the driver are expected.
 use super::driver::{Comes, Connections, Driver};
 use assertion_support::expect_eq;
 use client_dialogue::{Exchanged, Step};
@@ -6,7 +6,7 @@ use cog_client::{Delivered, Ignored, Query, Why};
 use std::process::Abort;
 use std::test::Fail;
 
-/// The head of the answer that has all of the file f1, and one more field.
+/// The head of the answer that has all of the file f1, with one more field.
 macro_rules! head {
     ($line:literal, $tag:literal, $more:literal) => {
         concat!($line, "\r\nETag: ", $tag, "\r\nContent-Range: bytes 0-377/378\r\nContent-Length: 378\r\n", $more, "\r\n")
@@ -36,7 +36,7 @@ pub const OTHER: &str = head!("HTTP/1.1 206 Partial Content", "\"2\"", "");
 
 pub const TIMEOUT: &str = "HTTP/1.1 408 Request Timeout\r\nContent-Length: 0\r\n\r\n";
 
-/// The whole file f1.
+/// An answer with the whole file f1.
 pub const WHOLE: Comes = Comes::Part(HEAD, 0, LENGTH);
 
 /// The request of a client without a revision (docs/PROFILE.md, *The client's request*).
@@ -62,7 +62,7 @@ pub const TOOK: Step = took!(1);
 
 pub const TOOK_FOUR: Step = took!(4);
 
-/// Of the answer no whole head came.
+/// An exchange without a whole head of an answer.
 pub const CUT: Step = unused!(Why::Cut, 0);
 
 pub const NO_HEAD: Step = unused!(Why::Head, 0);
@@ -73,21 +73,21 @@ pub const MISSING: Step = unused!(Why::Status(404), 404);
 
 pub const TIMED_OUT: Step = unused!(Why::Status(408), 408);
 
-/// What connections bring, and what is expected.
+/// A row has what connections bring, and what is expected.
 #[derive(Clone, Copy)]
 pub struct Row {
     pub name: &'static str,
     pub connections: Connections,
-    /// How many exchanges each query may take. Before each but the first the client forgets what it has.
+    /// The number of exchanges that each query may take. Before each query but the first, the client forgets all that it has.
     pub queries: &'static [u32],
     pub steps: &'static [Step],
     /// The requests that are written, on all connections.
     pub requests: &'static [&'static str],
-    /// How many connections are made.
+    /// The number of connections that are made.
     pub made: usize,
     /// Whether a connection is there afterwards.
     pub is_open: bool,
-    /// The ETag of the report, if one stands.
+    /// The ETag of the report, where there is one.
     pub tag: Option<&'static str>,
 }
 
@@ -114,7 +114,7 @@ fn are_written(written: &[u8], requests: &[&str]) -> bool {
     rest.is_empty()
 }
 
-/// Compares what was done with what is expected.
+/// Compares the steps, requests, connections and report with those that are expected.
 fn expect_done(rt: &impl Abort, driver: &Driver<'_>, row: &Row, size: usize) {
     let name = row.name;
     let report = driver.client.report();
@@ -126,7 +126,7 @@ fn expect_done(rt: &impl Abort, driver: &Driver<'_>, row: &Row, size: usize) {
     expect_eq!(rt; tag == row.tag.map(|tag| tag.as_bytes()), true, "{name}, in pieces of {size}");
 }
 
-/// Does what a row says, in pieces of at most `size` bytes.
+/// Runs the queries of a row in pieces of at most `size` bytes, and compares.
 fn expect_row(
     rt: &(impl Abort + AllocGlobal),
     query: Query,
@@ -140,7 +140,7 @@ fn expect_row(
     Ok(())
 }
 
-/// Does what these rows say, by single bytes and by all that there are at once.
+/// Runs these rows, byte by byte and all bytes at once.
 pub fn expect_rows(
     rt: &(impl Abort + AllocGlobal),
     query: Query,

@@ -1,5 +1,5 @@
-//! Windows by requests that look ahead: the same as without, by fewer requests where a gap between tiles is smaller than a block,
-//! and by no byte more.
+//! Windows that are read by requests that look ahead. The outcomes are the same as without. The requests are fewer where a gap between
+//! tiles is smaller than a block. No more bytes come.
 use assertion_support::expect_eq;
 use cog_client::{Client, Query};
 use cog_client_support::{AHEAD, NotDone, OLD, Publication, client_of_a, cog};
@@ -10,23 +10,23 @@ use std::process::Abort;
 use std::test::Fail;
 use tiff_dir::Span;
 
-/// How many blocks clients keep.
+/// The numbers of blocks that clients keep.
 const CAPACITIES: [u32; 2] = [66, 4096];
 
-/// How a window was read: the requests, and the bytes of their answers' bodies.
+/// How a window was read: the number of requests, and the number of bytes in the bodies of their answers.
 #[derive(Clone, Copy, Debug, PartialEq, Eq)]
 struct Traffic {
     requests: u32,
     bytes: u64,
 }
 
-/// How many bytes of a file a span has.
+/// Returns how many bytes of a file a span has.
 fn bytes_in(span: Span, file: &[u8]) -> u64 {
     let end = span.last.saturating_add(1).min(file.len() as u64);
     end.saturating_sub(span.first)
 }
 
-/// Makes a request, if there is one, and answers it. The bytes of the answer's body.
+/// Makes a request, if there is one, and answers it. Returns the number of bytes in the answer's body.
 fn exchange(
     alloc: Global,
     client: &mut Client,
@@ -41,7 +41,7 @@ fn exchange(
     Ok(Some(bytes_in(span, published.file)))
 }
 
-/// Reads a window by whole answers, and says how. None where no report comes by the hundredth.
+/// Reads a window by whole answers, and returns how. Returns `None` where no report comes by the hundredth request.
 fn read(
     alloc: Global,
     client: &mut Client,
@@ -59,14 +59,14 @@ fn read(
     Ok(None)
 }
 
-/// A client that has so many blocks, and looks so many ahead.
+/// Makes a client that keeps `blocks` blocks and looks `ahead` blocks ahead.
 fn looking(alloc: Global, blocks: u32, ahead: u32) -> Result<Client, NotDone> {
     let mut client = client_of_a(alloc, blocks)?;
     client.look_ahead(ahead);
     Ok(client)
 }
 
-/// Whether a window of a fixture is read right by such a client.
+/// Returns whether such a client reads a window of a fixture right.
 fn is_read(
     alloc: Global,
     fixture: Fixture,
@@ -83,7 +83,7 @@ fn is_read(
     Ok(is_wanted(client.report().map(|report| &report.outcome), want))
 }
 
-/// The number of the first window of the tables that isn't read right by such a client.
+/// Returns the number of the first window of the tables that such a client doesn't read right.
 fn wrong_row(alloc: Global, blocks: u32, ahead: u32) -> Result<Option<usize>, NotDone> {
     for (row, (fixture, numbers, want)) in WINDOWS.iter().enumerate() {
         if !is_read(alloc, *fixture, (window(*numbers), *want), (blocks, ahead))? {
@@ -104,7 +104,7 @@ fn reads_the_windows_of_the_tables_however_far_it_looks(rt: HostRuntime) -> Resu
     Ok(())
 }
 
-/// A window of the largest level: column, row, width, height.
+/// A window of the largest level: column, row, width and height.
 type Place = (u32, u32, u32, u32);
 
 fn query_at((x, y, w, h): Place) -> Query {
@@ -114,7 +114,7 @@ fn query_at((x, y, w, h): Place) -> Query {
 /// Windows of f5: the whole image, and parts of some tiles.
 const LARGE: [Place; 3] = [(0, 0, 1280, 1024), (200, 100, 600, 700), (1023, 767, 2, 2)];
 
-/// Whether a window is read right by a client.
+/// Returns whether a client reads a window right.
 fn is_read_by(
     alloc: Global,
     client: &mut Client,
@@ -129,7 +129,7 @@ fn is_read_by(
     }
 }
 
-/// The first window of these that isn't read right by such a client.
+/// Returns the first of these windows that such a client doesn't read right.
 fn wrong_window(
     alloc: Global,
     plain: &Plain,
@@ -145,7 +145,7 @@ fn wrong_window(
     Ok(None)
 }
 
-/// Expects that these windows are read right, however many blocks a client has, and however far it looks.
+/// Expects that these windows are read right, however many blocks a client keeps, and however far it looks ahead.
 fn expect_right(
     rt: &(impl Abort + AllocGlobal),
     plain: &Plain,
@@ -166,8 +166,10 @@ fn reads_large_windows_however_far_it_looks(rt: HostRuntime) -> Result<(), Fail>
     expect_right(&rt, &plain, &LARGE)
 }
 
-/// Windows of an image of 8 by 8 tiles. Without looking ahead there is a request for each of the tiles, and one for the first
-/// bytes; looking far ahead, one for each row of tiles, since the tiles of the window stand 8 bytes apart in it.
+/// Windows of an image of 8 by 8 tiles. A row has the place, and the number of requests without looking ahead and with it.
+///
+/// Without looking ahead, each tile takes a request, and the first bytes take one. With looking far ahead, each row of tiles takes one,
+/// since the tiles of the window stand 8 bytes apart in it.
 const ROWS: [(Place, u32, u32); 4] = [
     ((1000, 1000, 16, 16), 2, 2),
     ((1016, 1016, 16, 16), 5, 3),
@@ -175,14 +177,14 @@ const ROWS: [(Place, u32, u32); 4] = [
     ((300, 300, 1024, 1024), 26, 6),
 ];
 
-/// How a new client reads a window.
+/// Returns how a new client reads a window.
 fn measured(alloc: Global, file: &[u8], query: Query, ahead: u32) -> Result<Traffic, Fail> {
     let mut client = looking(alloc, 66, ahead)?;
     let traffic = read(alloc, &mut client, Publication { tag: OLD, file }, query)?;
     Ok(traffic.ok_or("no report")?)
 }
 
-/// Expects so many requests for a window without looking ahead and with it, and the same bytes.
+/// Expects the two numbers of requests for a window, without looking ahead and with it. Expects the same number of bytes for both.
 fn expect_requests(
     rt: &(impl Abort + AllocGlobal),
     file: &[u8],
@@ -205,7 +207,8 @@ fn asks_a_row_of_tiles_at_once(rt: HostRuntime) -> Result<(), Fail> {
     Ok(())
 }
 
-/// Windows of an image of 3 by 3 tiles: all of it, one tile in the middle and a pixel of each beside it, and the last two rows.
+/// Windows of an image of 3 by 3 tiles: all of it, and the last two rows. Between them stands one tile in the middle, with a pixel of each
+/// tile beside it.
 const APART: [Place; 3] = [(0, 0, 768, 768), (255, 255, 258, 258), (0, 766, 768, 2)];
 
 #[test]

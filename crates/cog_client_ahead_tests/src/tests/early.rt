@@ -1,4 +1,4 @@
-//! The requests that a client tells early are those that it makes then, where answers come whole.
+//! The early requests of a client are the ones that it makes afterwards, where answers come whole.
 use assertion_support::expect_eq;
 use cog_client::{Client, Query};
 use cog_client_support::{AHEAD, NotDone, OLD, Publication, client_of_a, cog};
@@ -7,28 +7,28 @@ use fixtures_support::f5;
 use std::alloc::Global;
 use std::test::Fail;
 
-/// How many are told at once.
+/// The most early requests at once.
 const MOST: u32 = 8;
 
-/// The requests that were told and not made yet, the next one first.
+/// Returns the early requests that weren't made yet, the next one first.
 fn told(early: &[Vec<u8>], at: usize) -> &[Vec<u8>] {
     early.get(at..).unwrap_or(&[])
 }
 
-/// How a client's request goes.
+/// How a client's request compares with the early requests.
 #[derive(Clone, Copy)]
 enum Made {
-    /// There is none.
+    /// There is no request.
     Nothing,
-    /// It is the one that was told, and the others are told as before.
+    /// The request is the first early request, and the other early requests stay the same.
     Told,
-    /// None was told.
+    /// There was no early request.
     First,
-    /// Another one was told, or what was told is told otherwise an answer later.
+    /// The first early request is another one, or the early requests are others an answer later.
     Otherwise,
 }
 
-/// What becomes of a request.
+/// Returns how a request compares with the early requests.
 fn becomes(early: &[Vec<u8>], request: &Vec<u8>) -> Made {
     match early.first() {
         None => Made::First,
@@ -37,7 +37,7 @@ fn becomes(early: &[Vec<u8>], request: &Vec<u8>) -> Made {
     }
 }
 
-/// Whether what is told now begins with what was told and not made yet. It takes its place.
+/// Returns whether the early requests of now begin with those that weren't made yet. Puts them into `early`.
 fn tells_on(client: &mut Client, early: &mut Vec<Vec<u8>>) -> Result<bool, NotDone> {
     let then = client.early_requests(MOST)?;
     let is_same = then.starts_with(told(early, 1));
@@ -45,7 +45,7 @@ fn tells_on(client: &mut Client, early: &mut Vec<Vec<u8>>) -> Result<bool, NotDo
     Ok(is_same)
 }
 
-/// Answers what the client asks.
+/// Answers the request of the client.
 fn answer(alloc: Global, client: &mut Client, published: Publication<'_>) -> Result<(), NotDone> {
     let span = client.asked().ok_or(NotDone::NoSuchPart)?;
     let answer = published.asked(alloc, span)?;
@@ -71,8 +71,8 @@ fn exchange(
     Ok(made)
 }
 
-/// Reads a window by whole answers. How many of its requests were told before the answer to the one before came; none where another one
-/// was, or where what was told is told otherwise an answer later.
+/// Reads a window by whole answers. Returns how many of its requests had been early requests. Returns `None` where an early request was
+/// another one than was then made, or where the early requests are others an answer later.
 fn told_of(
     alloc: Global,
     client: &mut Client,
@@ -93,7 +93,7 @@ fn told_of(
     Ok(None)
 }
 
-/// A client that has so many blocks, looks so many ahead, and keeps its connection.
+/// Makes a client that keeps `blocks` blocks, looks `ahead` blocks ahead, and keeps its connection.
 fn keeping(alloc: Global, blocks: u32, ahead: u32) -> Result<Client, NotDone> {
     let mut client = client_of_a(alloc, blocks)?;
     client.look_ahead(ahead);
@@ -101,7 +101,8 @@ fn keeping(alloc: Global, blocks: u32, ahead: u32) -> Result<Client, NotDone> {
     Ok(client)
 }
 
-/// Windows of an image of 8 by 8 tiles, of which rows of tiles are asked for one after another: each row but the first is told.
+/// Windows of an image of 8 by 8 tiles, whose rows of tiles are asked for one after another. A row has the window, and the number of its
+/// early requests. Each row of tiles but the first has one.
 const ROWS: [((u32, u32, u32, u32), u32); 4] = [
     ((1000, 1000, 16, 16), 0),
     ((1016, 1016, 16, 16), 1),
@@ -109,7 +110,7 @@ const ROWS: [((u32, u32, u32, u32), u32); 4] = [
     ((300, 300, 1024, 1024), 4),
 ];
 
-/// How many requests of a window are told to a client that keeps its connection.
+/// Returns how many early requests a window has for a client that keeps its connection.
 fn told_to_new(
     alloc: Global,
     file: &[u8],
@@ -130,7 +131,7 @@ fn tells_each_row_of_tiles_but_the_first(rt: HostRuntime) -> Result<(), Fail> {
     Ok(())
 }
 
-/// Whether requests of a window of a fixture are told rightly to such a client.
+/// Returns whether the early requests of a window of a fixture are right for such a client.
 fn is_told(
     alloc: Global,
     fixture: Fixture,
@@ -146,7 +147,7 @@ fn is_told(
     Ok(told_of(alloc, &mut client, published, query)?.is_some())
 }
 
-/// The number of the first window of the tables of which a request is told wrongly to such a client.
+/// Returns the number of the first window of the tables with a wrong early request for such a client.
 fn wrong_row(alloc: Global, blocks: u32, ahead: u32) -> Result<Option<usize>, NotDone> {
     for (row, (fixture, numbers, _)) in WINDOWS.iter().enumerate() {
         if !is_told(alloc, *fixture, window(*numbers), (blocks, ahead))? {
@@ -167,7 +168,7 @@ fn tells_nothing_else_of_the_windows_of_the_tables(rt: HostRuntime) -> Result<()
     Ok(())
 }
 
-/// How many requests of a window are told to a client that doesn't keep its connection.
+/// Returns how many early requests a window has for a client that doesn't keep its connection.
 fn told_to_closing(alloc: Global, file: &[u8]) -> Result<Option<u32>, NotDone> {
     let mut client = client_of_a(alloc, 256)?;
     client.look_ahead(64);
@@ -182,7 +183,8 @@ fn tells_nothing_where_connections_are_closed(rt: HostRuntime) -> Result<(), Fai
     Ok(())
 }
 
-/// How many requests a window makes behind its first one, which are those that were told at that, in order, and no others; else none.
+/// Returns how many requests a window makes after its first one. Returns `None` unless they are the early requests of that time, in order,
+/// and no others.
 fn made_as_told(
     alloc: Global,
     client: &mut Client,
@@ -203,8 +205,8 @@ fn made_as_told(
     Ok(None)
 }
 
-/// How many requests of a window of f5 a client makes behind its first one, told as above, that has the tile in the second row and the
-/// second column; none where no report stands then.
+/// Returns how many requests a window of f5 makes after its first one, compared as above. The client has the tile in the second row and the
+/// second column. Returns `None` where no report stands at the end.
 fn made_behind(alloc: Global, query: Query) -> Result<Option<usize>, NotDone> {
     let file = f5(alloc)?;
     let published = Publication {
@@ -220,8 +222,8 @@ fn made_behind(alloc: Global, query: Query) -> Result<Option<usize>, NotDone> {
     Ok(count)
 }
 
-/// Of two rows of tiles the one in the second row and the second column is there: behind the first row's request two are made, for
-/// what the second row lacks before that tile and behind it, and both are told.
+/// Expects two requests after that of the first of two rows of tiles. The tile in the second row and the second column is there. The two
+/// are for what the second row lacks before it and after it, and both are early requests.
 #[test]
 fn tells_what_a_row_lacks_behind_a_tile_that_is_there(rt: HostRuntime) -> Result<(), Fail> {
     let query = of_level(0, 0, 1000, 500, 0);
@@ -229,7 +231,8 @@ fn tells_what_a_row_lacks_behind_a_tile_that_is_there(rt: HostRuntime) -> Result
     Ok(())
 }
 
-/// Of the second row alone: its first request is for what it lacks before that tile, and with it the one is told for what it lacks behind.
+/// Expects one early request for the second row of tiles alone. The first request is for what the row lacks before that tile, and the early
+/// one for what it lacks after it.
 #[test]
 fn tells_what_the_present_row_lacks_behind_a_tile(rt: HostRuntime) -> Result<(), Fail> {
     let query = of_level(0, 300, 1000, 100, 0);

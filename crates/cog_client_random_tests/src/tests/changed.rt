@@ -1,25 +1,25 @@
-//! Answers part by part, and changes of them.
+//! Answers in their parts, and changes of these.
 use super::revisions::Revision;
 use cog_client::Client;
 use cog_client_support::NotDone;
 use fixtures_support::Numbers;
 use std::alloc::{AllocError, Global};
 
-/// An answer, part by part.
+/// The parts of an answer.
 #[derive(Drop)]
 pub struct Parts<'a> {
-    /// What follows `HTTP/1.1 ` in the first line.
+    /// The text that follows `HTTP/1.1 ` in the first line.
     status: &'static str,
-    /// What stands before the tag: the name of its field, in some form.
+    /// The text that stands before the tag: the name of its field, in some form.
     etag: &'static str,
     tag: &'a str,
-    /// First and last position, and the length of the file.
+    /// The first and the last position, and the length of the file.
     range: Option<(u64, u64, u64)>,
     length: u64,
     body: Vec<u8>,
 }
 
-/// What a server of this revision answers to what the client asks.
+/// Returns the answer of a server of this revision to the client's request.
 pub fn honest<'a>(
     alloc: Global,
     revision: Revision<'a>,
@@ -51,7 +51,7 @@ pub fn honest<'a>(
     })
 }
 
-/// A number near another one, or any.
+/// Returns a number near another one, or any number.
 fn other_number(numbers: &mut Numbers, number: u64) -> u64 {
     match numbers.below(4) {
         0 => number.saturating_add(1),
@@ -62,7 +62,7 @@ fn other_number(numbers: &mut Numbers, number: u64) -> u64 {
 }
 
 impl<'a> Parts<'a> {
-    /// The bytes of the answer.
+    /// Returns the bytes of the answer.
     pub fn text(&self, alloc: Global) -> Result<Vec<u8>, AllocError> {
         let (status, etag, tag, length) = (self.status, self.etag, self.tag, self.length);
         let mut head = format!(in alloc; "HTTP/1.1 {status}\r\n{etag}{tag}\r\n")?;
@@ -101,8 +101,8 @@ impl<'a> Parts<'a> {
         }
     }
 
-    /// Changes what is no lie of the bytes that the tag's revision has: the form of the tag's field, or what follows the bytes that
-    /// are announced.
+    /// Changes an answer without a lie about the bytes of the tag's revision. It changes the form of the tag's field, or what follows the
+    /// bytes that are announced.
     pub fn change_form(&mut self, numbers: &mut Numbers) -> Result<(), AllocError> {
         match numbers.below(6) {
             0 => self.etag = "ETag:\r\n ",

@@ -1,6 +1,8 @@
-//! Answers that are changed at random: numbers, bits and tags, folded and doubled fields, bodies of another revision, cut and
-//! longer answers, in pieces of any size. The client comes to a report or to none; where no answer lied of the bytes of its tag's
-//! revision, the report is what the plain program reads in that.
+//! Answers that are changed at random: numbers, bits and tags, folded and doubled fields, bodies of another revision. They are cut or
+//! longer, and come in pieces of any size.
+//!
+//! The client comes to a report or to none. Where no answer lied about the bytes of its tag's revision, the report is what the plain
+//! program reads in that revision.
 use super::changed::{Parts, honest};
 use super::revisions::{Revision, is_right, revision_of};
 use cog_client::Client;
@@ -12,19 +14,19 @@ use std::process::Abort;
 use std::test::Fail;
 use tiff_dir::Query;
 
-/// A server of two revisions that may lie, and which of them it has.
+/// A server of two revisions that may lie, and the number of the one that it has.
 #[derive(Drop)]
 struct Liar<'a> {
     revisions: &'a [Revision<'a>],
     now: usize,
     numbers: Numbers,
-    /// Whether no answer has lied since everything was forgotten.
+    /// Whether no answer has lied since the client last forgot everything.
     is_honest: bool,
     answers: usize,
     reports: usize,
 }
 
-/// A window of up to 20 by 20 samples, or Info.
+/// Returns a window of up to 20 by 20 samples, or Info.
 fn query(numbers: &mut Numbers) -> Query {
     if numbers.below(5) == 0 {
         return Query::Info;
@@ -35,13 +37,13 @@ fn query(numbers: &mut Numbers) -> Query {
 }
 
 impl<'a> Liar<'a> {
-    /// The revision that the server has, or the other one.
+    /// Returns the revision that the server has, or the other one.
     fn revision(&self, is_other: bool) -> Result<Revision<'a>, NotDone> {
         let at = if is_other { self.now ^ 1 } else { self.now };
         self.revisions.get(at).copied().ok_or(NotDone::NoSuchPart)
     }
 
-    /// Changes an answer, so that it lies or without a lie.
+    /// Changes an answer, with a lie or without one.
     fn change(&mut self, alloc: Global, parts: &mut Parts<'a>, lies: bool) -> Result<(), NotDone> {
         if lies {
             let other = self.revision(true)?;
@@ -53,7 +55,7 @@ impl<'a> Liar<'a> {
         Ok(())
     }
 
-    /// Answers what the client asks, and says whether it asked. Every second answer is changed, and every fourth cut.
+    /// Answers the client's request, and returns whether there was one. Every second answer is changed, and every fourth is cut, at random.
     fn exchange(
         &mut self,
         alloc: Global,
@@ -85,7 +87,7 @@ impl<'a> Liar<'a> {
         Ok(true)
     }
 
-    /// Asks a query, of which a report comes by eight exchanges or none. Whether it is right, where no answer lied.
+    /// Asks a query. A report comes within eight exchanges, or none comes. Returns whether it is right, where no answer lied.
     fn ask(&mut self, alloc: Global, client: &mut Client) -> Result<bool, NotDone> {
         if !self.is_honest || self.numbers.below(4) == 0 {
             client.forget();
@@ -107,7 +109,7 @@ impl<'a> Liar<'a> {
     }
 }
 
-/// Expects no wrong report, and enough of them, in so many answers of these revisions.
+/// Expects no wrong report, and enough reports, in `answers` answers of these revisions.
 fn expect_right(
     rt: &(impl Abort + AllocGlobal),
     (old, new): (Vec<u8>, Vec<u8>),

@@ -1,4 +1,4 @@
-//! The revisions of a file that is replaced, and whether a report is right of the one whose tag it has.
+//! The revisions of a file that is replaced, and whether a report is right about the one whose tag it has.
 use cog_client::Report;
 use cog_client_support::Publication;
 use cog_reader_support::Plain;
@@ -12,7 +12,7 @@ pub struct Revision<'a> {
     pub plain: &'a Plain,
 }
 
-/// A file that is published under a tag.
+/// Makes the revision of a file that is published under a tag.
 pub fn revision_of<'a>(tag: &'a str, plain: &'a Plain) -> Revision<'a> {
     let file = &plain.file;
     Revision {
@@ -21,7 +21,7 @@ pub fn revision_of<'a>(tag: &'a str, plain: &'a Plain) -> Revision<'a> {
     }
 }
 
-/// Whether a report answers the query as the plain program does, in the file that was published under its tag.
+/// Returns whether a report answers the query as the plain program does, in the file that was published under the report's tag.
 pub fn is_right(
     alloc: Global,
     report: &Report,

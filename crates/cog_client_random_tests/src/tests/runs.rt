@@ -1,6 +1,8 @@
-//! Random runs: answers that are cut, lost, repeated or late, of a file that is replaced again and again. Each report is what
-//! the plain program reads in the file that has its tag. However far the client looks ahead, whole answers lead to one by the
-//! answer after as many as the query costs.
+//! Random runs, with answers that are cut, lost, repeated or late, of a file that is replaced again and again. Each report is what the
+//! plain program reads in the file that has its tag.
+//!
+//! Whole answers lead to a report, however far the client looks ahead. It comes at the latest with the answer after as many as the query
+//! costs.
 ghost use Rattle.std.specs.Prelude.{◌<◌};
 
 use super::revisions::{Revision, is_right, revision_of};
@@ -14,7 +16,7 @@ use std::process::Abort;
 use std::test::Fail;
 use tiff_dir::Query;
 
-/// A run: the generator's first state, how many windows are read, and whether the client looks ahead.
+/// A run: the first state of the generator, how many windows are read, and whether the client looks ahead.
 #[derive(Clone, Copy, Debug)]
 struct Run {
     seed: u64,
@@ -22,7 +24,7 @@ struct Run {
     is_looking: bool,
 }
 
-/// Where answers come from, and those that may come again.
+/// The revisions that answers are of, and the answers that may come again.
 #[derive(Drop)]
 struct Net<'a> {
     revisions: &'a [Revision<'a>],
@@ -32,8 +34,7 @@ struct Net<'a> {
 }
 
 impl<'a> Net<'a> {
-    /// What the server answers to the client's request: a part of the publication of now, or all of it where the client has
-    /// another.
+    /// Returns the server's answer to the client's request: a part of the present publication, or all of it where the client has another.
     fn answer(&self, alloc: Global, client: &Client) -> Result<Vec<u8>, NotDone> {
         let revision = self.revisions.get(self.now).ok_or(NotDone::NoSuchPart)?;
         let publication = revision.publication;
@@ -44,7 +45,7 @@ impl<'a> Net<'a> {
         }
     }
 
-    /// Keeps an answer, in the place of another once there are eight.
+    /// Keeps an answer. It may take the place of another one, and at most eight are kept.
     fn keep(&mut self, answer: Vec<u8>) -> Result<(), AllocError> {
         let at = self.numbers.below(8);
         match self.kept.get_mut(at) {
@@ -54,7 +55,7 @@ impl<'a> Net<'a> {
         Ok(())
     }
 
-    /// Delivers an answer that is kept.
+    /// Delivers a kept answer.
     fn repeat(&mut self, client: &mut Client) -> Result<(), NotDone> {
         let at = self.numbers.below(8);
         if let Some(answer) = self.kept.get(at) {
@@ -63,7 +64,7 @@ impl<'a> Net<'a> {
         Ok(())
     }
 
-    /// How many bytes of an answer come.
+    /// Returns how many bytes of an answer come.
     fn end(&mut self, len: usize, is_cut: bool) -> usize {
         if is_cut && len > 0 {
             self.numbers.below(len)
@@ -72,7 +73,7 @@ impl<'a> Net<'a> {
         }
     }
 
-    /// Makes a request, if there is one, and delivers its answer, or a front of it.
+    /// Makes a request, if there is one, and delivers its answer or a front of it.
     fn exchange(
         &mut self,
         alloc: Global,
@@ -89,8 +90,8 @@ impl<'a> Net<'a> {
         Ok(())
     }
 
-    /// One of the things that happen on the way: the file is replaced, an answer comes again, a request or its answer is lost,
-    /// an answer is cut, everything is forgotten, or all goes well.
+    /// Lets one thing happen: the file is replaced, an answer comes again or is cut, or a request or its answer is lost. Or everything is
+    /// forgotten, or all goes well.
     fn happen(&mut self, alloc: Global, client: &mut Client) -> Result<(), NotDone> {
         match self.numbers.below(10) {
             0 => self.now = self.numbers.below(4),
@@ -105,7 +106,7 @@ impl<'a> Net<'a> {
         Ok(())
     }
 
-    /// Lets things happen until a report stands: anything at first, then whole answers alone. Whether the report is right.
+    /// Lets things happen until a report stands: at first anything, and then only whole answers. Returns whether the report is right.
     fn settle(
         &mut self,
         alloc: Global,
@@ -127,7 +128,7 @@ impl<'a> Net<'a> {
         Ok(false)
     }
 
-    /// Has the client look ahead by some number of blocks.
+    /// Sets how many blocks the client looks ahead, at random.
     fn look(&mut self, client: &mut Client) {
         let at = self.numbers.below(4);
         client.look_ahead(AHEAD[at]);
@@ -145,8 +146,8 @@ impl<'a> Net<'a> {
         Ok(())
     }
 
-    /// Lets some things happen, and then whole answers alone come, of the file of now, after as many as the query costs and one
-    /// more. Whether the report is right.
+    /// Lets some things happen. Then only whole answers of the present file come, one more than the query costs. Returns whether the report
+    /// is right.
     fn is_in_time(
         &mut self,
         alloc: Global,
@@ -171,7 +172,7 @@ impl<'a> Net<'a> {
     }
 }
 
-/// Where a window begins along a side, and how long it is there, at most 300.
+/// Returns where a window begins along a side, and its length there, at most 300.
 fn stretch(numbers: &mut Numbers, side: u32) -> (u32, u32)
     requires { 0 < side }
 {
@@ -180,7 +181,8 @@ fn stretch(numbers: &mut Numbers, side: u32) -> (u32, u32)
     (first as u32, len as u32)
 }
 
-/// Reads so many windows of an image of these sides, by requests that look ahead or don't. The first that isn't read right.
+/// Reads the windows of a run, in an image of the sides `sides`, by requests that look ahead or don't. Returns the first that isn't read
+/// right.
 fn wrong_window(
     alloc: Global,
     net: &mut Net<'_>,
@@ -207,7 +209,7 @@ fn wrong_window(
     Ok(None)
 }
 
-/// Reads windows of two files that are published in turn. The first that isn't read right.
+/// Reads windows of two files that are published in turn. Returns the first that isn't read right.
 fn wrong_of_two(
     alloc: Global,
     files: [&Plain; 2],
@@ -233,7 +235,7 @@ fn wrong_of_two(
     wrong_window(alloc, &mut net, sides, run)
 }
 
-/// Expects that windows of two files, of images of these sides, are read right.
+/// Expects that windows of two files are read right. Their images have the sides `sides`.
 fn expect_right(
     rt: &(impl Abort + AllocGlobal),
     files: (Vec<u8>, Vec<u8>),
@@ -250,7 +252,7 @@ fn expect_right(
     Ok(())
 }
 
-/// Expects it of f2, which is replaced by f2b and back.
+/// Expects the same of f2, which is replaced by f2b and back.
 fn expect_small(rt: &(impl Abort + AllocGlobal), run: Run) -> Result<(), Fail> {
     expect_right(rt, (f2(rt.alloc())?, f2b(rt.alloc())?), (256, 256), run)
 }

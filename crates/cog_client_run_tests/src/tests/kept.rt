@@ -20,13 +20,13 @@ const F1_TWICE: Revisions<'static> = Revisions {
     ..F2_TWICE
 };
 
-/// The file f2 is replaced by f3.
+/// The file f2, replaced by f3.
 const F2_BY_F3: Revisions<'static> = Revisions {
     files: [Fixture::F2, Fixture::F3],
     ..F2_TWICE
 };
 
-/// The windows of two exchanges reach every block of f2: no other window needs a request.
+/// Steps after the windows of two exchanges, which reach every block of f2. No other window needs a request.
 const ALL_BLOCKS: [Step<'static>; 26] = [
     Reads(0, 2),
     Opens(0, 0, 1, 1),
@@ -56,7 +56,7 @@ const ALL_BLOCKS: [Step<'static>; 26] = [
     Reports(OLD, OF_ONES),
 ];
 
-/// Others were asked before it.
+/// Steps with a window that is asked after other queries.
 const OPENED_AGAIN: [Step<'static>; 10] = [
     Open(Query::Info),
     Asks(FIRST, None),
@@ -70,7 +70,7 @@ const OPENED_AGAIN: [Step<'static>; 10] = [
     Reports(OLD, Want::Window(2, 1, 1, 8, &[0x57, 0x58])),
 ];
 
-/// Another revision answers it.
+/// Steps with a window that another revision answers, after the client forgot the first.
 const FORGOTTEN: [Step<'static>; 10] = [
     Opens(0, 16, 1, 1),
     Asks(FIRST, None),
@@ -84,7 +84,7 @@ const FORGOTTEN: [Step<'static>; 10] = [
     Reports(NEW, Want::Window(1, 1, 1, 8, &[0x12])),
 ];
 
-/// In either order.
+/// Steps with two parts of one block, in either order.
 const HALVES: [Step<'static>; 12] = [
     Opens(0, 0, 1, 1),
     Asks(FIRST, None),

@@ -12,7 +12,7 @@ use cog_reader_support::Want;
 use std::alloc::{AllocError, Global};
 use std::test::Fail;
 
-/// The samples of f5: every one of tile t is t. In the other revision it is 255 - t.
+/// Returns the samples of f5. Each sample of tile t is t, or 255 - t in the other revision.
 fn samples(alloc: Global, is_other: bool) -> Result<Vec<u8>, AllocError> {
     let mut samples = Vec::new(alloc);
     for i in 0..5120u32 {
@@ -23,8 +23,8 @@ fn samples(alloc: Global, is_other: bool) -> Result<Vec<u8>, AllocError> {
     Ok(samples)
 }
 
-/// How a client with so many blocks reads the whole image: the steps before its report, whether it is of the other revision,
-/// and the steps after it.
+/// How a client that keeps `blocks` blocks reads the whole image. It has the steps before the report, whether the report is of the other
+/// revision, and the steps after it.
 #[derive(Clone, Copy)]
 struct Reading {
     name: &'static str,
@@ -34,7 +34,7 @@ struct Reading {
     after: &'static [Step<'static>],
 }
 
-/// The first 16 tiles are one group of 1,048,576 bytes.
+/// Steps up to the request for the first group: the first 16 tiles, of 1,048,576 bytes.
 const ASKS_FIRST_GROUP: [Step<'static>; 4] = [
     Opens(0, 0, 1280, 1024),
     Asks(FIRST, None),
@@ -42,7 +42,7 @@ const ASKS_FIRST_GROUP: [Step<'static>; 4] = [
     Asks((65536, 1064959), Some(OLD)),
 ];
 
-/// The other four are another.
+/// Steps up to the request for the second group: the other four tiles.
 const ASKS_SECOND_GROUP: [Step<'static>; 2] = [
     TakesMore(Part(0, 65536, 1064959), 61),
     Asks((1064960, 1327103), Some(OLD)),
@@ -56,8 +56,8 @@ const TWO_GROUPS: [&[Step<'static>]; 3] = [
     &TAKES_SECOND_GROUP,
 ];
 
-/// The least cache keeps the last 66 blocks, so blocks 0 to 14 have left: of tile 0 there is no block, of tile 3 there are two
-/// of four, of tile 19 all.
+/// The least cache keeps the last 66 blocks, so blocks 0 to 14 have left. Of tile 0 no block is left, of tile 3 two of four, and of tile 19
+/// all.
 const LEAST: Reading = Reading {
     name: "the least cache",
     blocks: 66,
@@ -95,7 +95,7 @@ const LEFT: Reading = Reading {
     ],
 };
 
-/// A cache that has room for every block: once the image is read, nothing is asked any more.
+/// A cache with room for every block. Nothing is asked any more after the image is read.
 const GREATEST: Reading = Reading {
     name: "the greatest cache",
     blocks: 4096,
@@ -117,14 +117,14 @@ const GREATEST: Reading = Reading {
     after: &[],
 };
 
-/// One that has room for these 81 blocks and no more.
+/// A cache with room for exactly these 81 blocks.
 const EXACT: Reading = Reading {
     name: "a cache of as many blocks",
     blocks: 81,
     ..GREATEST
 };
 
-/// The limits of what is asked in the middle of a file, and the gaps that answers leave in it.
+/// The limits of a request in the middle of a file, and the gaps that answers leave in it.
 const GAPS: Reading = Reading {
     name: "gaps",
     blocks: 66,
@@ -153,7 +153,7 @@ const GAPS: Reading = Reading {
     after: &[],
 };
 
-/// The file is replaced by a longer one once 16 of the 20 tiles are read.
+/// The file is replaced by a longer one after 16 of the 20 tiles are read.
 const REPLACED: Reading = Reading {
     name: "replaced midway",
     blocks: 66,
@@ -174,7 +174,7 @@ const REPLACED: Reading = Reading {
     after: &[],
 };
 
-/// Whether the report is the whole image.
+/// Returns whether the report is the whole image.
 fn is_whole(
     alloc: Global,
     session: &mut Session<'_>,
@@ -185,7 +185,7 @@ fn is_whole(
 }
 
 impl Reading {
-    /// The number of the first step of a session that goes otherwise; the report is a step between the others.
+    /// Returns the number of the first step of a session that doesn't go as expected. The report counts as a step between the others.
     fn go(
         &self,
         alloc: Global,
@@ -209,7 +209,7 @@ impl Reading {
         }
     }
 
-    /// The number of the first step of a new client that goes otherwise, with answers that come whole or in pieces.
+    /// Returns the number of the first step of a new client that doesn't go as expected. Answers come whole or in pieces.
     fn otherwise(
         &self,
         alloc: Global,
@@ -228,7 +228,7 @@ impl Reading {
     }
 }
 
-/// The name of the first of these readings that goes otherwise, and the number of its step.
+/// Returns the name of the first of these readings that doesn't go as expected, and the number of its step.
 fn reading_otherwise(
     alloc: Global,
     files: &[Publication<'_>],
@@ -255,7 +255,7 @@ fn reads_a_large_image_by_several_requests(rt: HostRuntime) -> Result<(), Fail> 
     Ok(())
 }
 
-/// A window of the first revision, and then windows of the next.
+/// Steps with a window of the first revision, and then windows of the next.
 const TWO_REVISIONS: [Step<'static>; 17] = [
     Opens(0, 0, 1, 1),
     Asks(FIRST, None),

@@ -1,5 +1,5 @@
-//! Each test passes with ample memory, and wherever one allocation is refused. The call that finds no memory is made again, and goes
-//! on to the same report; an answer that found none begins again.
+//! Each test passes with ample memory, and wherever one allocation is refused. The call that runs out of memory is made again, and goes on
+//! to the same report. An answer that ran out of memory begins again.
 use assertion_support::expect_eq;
 use cog_client::{Client, ClientError, Delivered, Query, Tag};
 use cog_client_support::Answer::{Part, Whole};
@@ -14,7 +14,7 @@ use std::process::Abort;
 use std::test::Fail;
 use tiff_dir::Pick;
 
-/// A file, built again if no memory is found.
+/// Builds a file. Builds it again where memory ran out.
 fn file_again(alloc: Global, fixture: Fixture) -> Result<Vec<u8>, AllocError> {
     match fixture.file(alloc) {
         Err(AllocError) => fixture.file(alloc),
@@ -22,7 +22,7 @@ fn file_again(alloc: Global, fixture: Fixture) -> Result<Vec<u8>, AllocError> {
     }
 }
 
-/// A client, made again if no memory is found.
+/// Makes a client. Makes it again where memory ran out.
 fn client_again(alloc: Global) -> Result<Client, ClientError> {
     match client_of_a(alloc, 66) {
         Err(ClientError::Memory) => client_of_a(alloc, 66),
@@ -30,8 +30,8 @@ fn client_again(alloc: Global) -> Result<Client, ClientError> {
     }
 }
 
-/// Whether the client's call that found no memory has left what it has to: after a request nothing is asked, and the revision is
-/// as before; after an answer something still is asked, and there is a revision. No report stands after either.
+/// Returns whether the client's call that ran out of memory has left what it should. After a request nothing is asked, and the revision is
+/// as before. After an answer something is still asked, and there is a revision. No report stands after either.
 fn is_left(client: &Client, step: Step<'_>, tag: Option<&Tag>) -> bool {
     match step {
         Asks(..) | AsksNothing => {
@@ -44,7 +44,7 @@ fn is_left(client: &Client, step: Step<'_>, tag: Option<&Tag>) -> bool {
     }
 }
 
-/// Does a step, again if no memory is found.
+/// Does a step. Does it again where memory ran out.
 fn step_again(alloc: Global, session: &mut Session<'_>, step: Step<'_>) -> Result<bool, NotDone> {
     let tag = session.client.tag().map(|tag| tag.copy());
     match session.step(alloc, step) {
@@ -56,7 +56,7 @@ fn step_again(alloc: Global, session: &mut Session<'_>, step: Step<'_>) -> Resul
     }
 }
 
-/// The number of the first step that goes otherwise.
+/// Returns the number of the first step that doesn't go as expected.
 fn step_otherwise(
     alloc: Global,
     session: &mut Session<'_>,
@@ -70,7 +70,7 @@ fn step_otherwise(
     Ok(None)
 }
 
-/// The number of the first step of a new client that goes otherwise, with answers that come whole or in pieces of so many bytes.
+/// Returns the number of the first step of a new client that doesn't go as expected. Answers come whole, or in pieces of `piece` bytes.
 fn otherwise(
     alloc: Global,
     revisions: &Revisions<'_>,
@@ -136,7 +136,7 @@ fn goes_on_after_refused_memory_between_two_exchanges(rt: HostRuntime) -> Result
     expect(&rt, &F2_REPLACED, &TWO_EXCHANGES)
 }
 
-/// The last window is read from blocks that are there: the going on is in the request.
+/// Steps whose last window is read from blocks that are there: the call `request` alone goes on.
 const REPLACED: [Step<'static>; 12] = [
     Opens(240, 240, 16, 16),
     Asks(FIRST, None),
@@ -157,7 +157,7 @@ fn goes_on_after_refused_memory_where_the_file_is_replaced(rt: HostRuntime) -> R
     expect(&rt, &F2_REPLACED, &REPLACED)
 }
 
-/// The text of an answer, made again if no memory is found.
+/// Makes the text of an answer. Makes it again where memory ran out.
 fn text_again(
     alloc: Global,
     answer: Answer,
@@ -169,7 +169,8 @@ fn text_again(
     }
 }
 
-/// Whether the rest of an answer is dropped whose block found no memory: it is fed once more behind that, and changes nothing.
+/// Returns whether the rest of an answer is dropped after one of its blocks ran out of memory. The answer is fed once more after that, and
+/// changes nothing.
 fn drops_rest(alloc: Global) -> Result<bool, NotDone> {
     let file = file_again(alloc, Fixture::F1)?;
     let [tag, next_tag] = F1_TWICE.tags;

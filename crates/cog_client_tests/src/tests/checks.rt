@@ -8,7 +8,7 @@ use cog_client_support::Step::{
 use cog_client_support::{ASKS_END, END, F2_TWICE, FIRST, Kind, OLD, Said, Step};
 use std::test::Fail;
 
-/// Answers of a server that has the file under the tag `"1-1"`, or under another.
+/// Answers of a server that has the file under the tag `"1-1"`, or under another one.
 const SAME: [&str; 4] = [
     "HTTP/1.1 304 Not Modified\r\nETag: \"1-1\"\r\nConnection: close\r\n\r\n",
     "HTTP/1.1 200 OK\r\nETag: \"1-1\"\r\nAccept-Ranges: bytes\r\nContent-Type: image/tiff\r\n\
@@ -25,7 +25,7 @@ const OTHER: [&str; 4] = [
     "HTTP/1.1 304 Not Modified\r\nETag: \"\"\r\n\r\n",
 ];
 
-/// Answers that say nothing, by the numbers under which they are told.
+/// Answers that say nothing, by the numbers under which they say it.
 const FRONTS: [&str; 2] = ["", "HTTP/1.1 304 Not Modified\r\nETag: \"1-1\"\r\n"];
 
 const NO_HEADS: [&str; 2] = ["HTTP 304\r\n\r\n", "GET /a HTTP/1.1\r\n\r\n"];
@@ -67,14 +67,14 @@ const MOST_FIELDS: &str = "HTTP/1.1 304 Not Modified\r\nETag: \"1-1\"\r\n\
     A: 1\r\nA: 1\r\nA: 1\r\nA: 1\r\nA: 1\r\nA: 1\r\nA: 1\r\n\
     \r\n";
 
-/// One that has 33 fields.
+/// An answer to a check that has 33 fields.
 const MORE_FIELDS: &str = "HTTP/1.1 304 Not Modified\r\nETag: \"1-1\"\r\n\
     A: 1\r\nA: 1\r\nA: 1\r\nA: 1\r\nA: 1\r\nA: 1\r\nA: 1\r\nA: 1\r\nA: 1\r\nA: 1\r\nA: 1\r\nA: 1\r\n\
     A: 1\r\nA: 1\r\nA: 1\r\nA: 1\r\nA: 1\r\nA: 1\r\nA: 1\r\nA: 1\r\nA: 1\r\nA: 1\r\nA: 1\r\nA: 1\r\n\
     A: 1\r\nA: 1\r\nA: 1\r\nA: 1\r\nA: 1\r\nA: 1\r\nA: 1\r\nA: 1\r\n\
     \r\n";
 
-/// What the answers say to a client whose revision has the tag `"1-1"`.
+/// Rows of answers, and what they say to a client whose revision has the tag `"1-1"`.
 const ANSWERS: [Kind<'static>; 11] = [
     (&SAME, Said::Same),
     (&[MOST_FIELDS], Said::Same),
@@ -89,7 +89,7 @@ const ANSWERS: [Kind<'static>; 11] = [
     (&CODINGS, Said::Unknown(9)),
 ];
 
-/// To one that has no revision.
+/// Rows of answers, and what they say to a client without a revision.
 const NOTHING: [Kind<'static>; 11] = [
     (&SAME, Said::Unknown(12)),
     (&[MOST_FIELDS], Said::Unknown(12)),
@@ -104,7 +104,7 @@ const NOTHING: [Kind<'static>; 11] = [
     (&CODINGS, Said::Unknown(12)),
 ];
 
-/// To one whose revision has the tag `"1-2"`.
+/// Rows of answers, and what they say to a client whose revision has the tag `"1-2"`.
 const REPLACED: [Kind<'static>; 4] = [
     (
         &["HTTP/1.1 304 Not Modified\r\nETag: \"1-2\"\r\n\r\n"],
@@ -122,7 +122,7 @@ const CHECK_OF_OLD: &str =
 const CHECK_OF_NEW: &str =
     "HEAD /a HTTP/1.1\r\nHost: cog.test\r\nIf-None-Match: \"1-2\"\r\nConnection: close\r\n\r\n";
 
-/// While something is asked, after a byte more, and after the report. A check changes nothing.
+/// Steps with a check while something is asked, after one byte more, and after the report. A check changes nothing.
 const SAYS: [Step<'static>; 11] = [
     Checks(Some(CHECK_OF_OLD)),
     Hears(&ANSWERS),
@@ -137,7 +137,8 @@ const SAYS: [Step<'static>; 11] = [
     Reports(OLD, OF_ONES),
 ];
 
-/// Without a revision there is no check, and nothing is known; after a restart the check has the other tag.
+/// Steps with checks of other revisions. Without a revision there is no check, and nothing is known. After a restart the check has the
+/// other tag.
 const TAGS: [Step<'static>; 13] = [
     Checks(None),
     Hears(&NOTHING),

@@ -5,7 +5,7 @@ use cog_reader_support::of_level;
 use std::alloc::{AllocError, Global};
 use std::test::Fail;
 
-/// A host, a name, a number of blocks, and the number of the refusal.
+/// A row has a host, a name, a number of blocks, and the number of the refusal.
 type Row = (&'static [u8], &'static [u8], u32, u8);
 
 const REFUSED: [Row; 27] = [
@@ -31,7 +31,7 @@ const REFUSED: [Row; 27] = [
     (b"h", b"a", 65, 3),
     (b"h", b"a", 4097, 3),
     (b"h", b"a", 4294967295, 3),
-    // The first refusal that holds.
+    // Where several refusals hold, the first one counts.
     (b"", b"", 0, 1),
     (b"", b"a", 0, 1),
     (b"", b"", 66, 1),
@@ -39,7 +39,7 @@ const REFUSED: [Row; 27] = [
     (b"h", b"a", 0, 3),
 ];
 
-/// A host, a name and a number of blocks with which a client is made.
+/// A row has a host, a name and a number of blocks with which a client is made.
 const MADE: [(&[u8], &[u8], u32); 8] = [
     (b"h", b"a", 66),
     (&[b'h'; 64], b"a", 66),
@@ -51,7 +51,7 @@ const MADE: [(&[u8], &[u8], u32); 8] = [
     (b"h", b"a", 4096),
 ];
 
-/// The number of the refusal, 0 where a client is made.
+/// Returns the number of the refusal, or 0 where a client is made.
 fn refusal(alloc: Global, host: &[u8], name: &[u8], blocks: u32) -> u8 {
     match Client::new(alloc, host, name, blocks) {
         Ok(_client) => 0,
@@ -68,7 +68,7 @@ fn refuses_hosts_names_and_caches(rt: HostRuntime) -> Result<(), Fail> {
     Ok(())
 }
 
-/// The first request to a host for a name.
+/// Returns the first request to a host for a name.
 fn first_request(alloc: Global, host: &[u8], name: &[u8]) -> Result<Vec<u8>, AllocError> {
     let mut text = Vec::from_slice(alloc, b"GET /")?;
     text.extend_from_slice(name)?;
@@ -78,7 +78,7 @@ fn first_request(alloc: Global, host: &[u8], name: &[u8]) -> Result<Vec<u8>, All
     Ok(text)
 }
 
-/// Whether a new client has nothing, and asks for the first bytes.
+/// Returns whether a new client has nothing, and asks for the first bytes.
 fn is_new(client: &mut Client, request: &[u8]) -> bool {
     let is_empty = client.asked().is_none() && client.tag().is_none() && client.report().is_none();
     client.open(of_level(0, 0, 1, 1, 0));
@@ -88,7 +88,7 @@ fn is_new(client: &mut Client, request: &[u8]) -> bool {
     }
 }
 
-/// Whether a client is made, whose first request is this one.
+/// Returns whether a client is made whose first request is `request`.
 fn is_made(alloc: Global, host: &[u8], name: &[u8], blocks: u32, request: &[u8]) -> bool {
     match Client::new(alloc, host, name, blocks) {
         Ok(mut client) => is_new(&mut client, request),
@@ -96,7 +96,7 @@ fn is_made(alloc: Global, host: &[u8], name: &[u8], blocks: u32, request: &[u8])
     }
 }
 
-/// The first of these clients that isn't made.
+/// Returns the first of these clients that isn't made.
 fn first_unmade(alloc: Global) -> Result<Option<usize>, AllocError> {
     for (i, (host, name, blocks)) in MADE.iter().enumerate() {
         let request = first_request(alloc, host, name)?;
@@ -125,8 +125,7 @@ fn numbers_its_refusals(rt: HostRuntime) {
     }
 }
 
-/// An authority, a target and a number of blocks, and why no client is made of them (RFC 3986, section 3; RFC 9112,
-/// section 3.2.1).
+/// A row has an authority, a target, a number of blocks, and why no client is made (RFC 3986, section 3; RFC 9112, section 3.2.1).
 const URLS_REFUSED: [(&[u8], &[u8], u32, UrlError); 12] = [
     (b"", b"/a", 66, UrlError::Authority),
     (b"u@h", b"/a", 66, UrlError::Authority),
@@ -139,11 +138,11 @@ const URLS_REFUSED: [(&[u8], &[u8], u32, UrlError); 12] = [
     (b"h", b"/a HTTP/1.1\r\nA: b", 66, UrlError::Target),
     (b"h", b"/a", 65, UrlError::Blocks),
     (b"h", b"/a", 4097, UrlError::Blocks),
-    // The first refusal that holds.
+    // Where several refusals hold, the first one counts.
     (b"", b"", 0, UrlError::Authority),
 ];
 
-/// An authority and a target, of which a client is made.
+/// A row has an authority and a target of which a client is made.
 const URLS_MADE: [(&[u8], &[u8]); 6] = [
     (b"h", b"/"),
     (b"h:", b"/a.tif?X-Amz-Signature=0f"),
@@ -153,7 +152,7 @@ const URLS_MADE: [(&[u8], &[u8]); 6] = [
     (b"a_b.test", b"/?"),
 ];
 
-/// The refusal of a client of a URL, if it isn't made.
+/// Returns the refusal of a client of a URL, if none is made.
 fn url_refusal(alloc: Global, authority: &[u8], target: &[u8], blocks: u32) -> Option<UrlError> {
     match Client::by_url(alloc, authority, target, RequestFields::new(alloc), blocks) {
         Ok(_client) => None,
@@ -169,7 +168,7 @@ fn refuses_parts_of_urls(rt: HostRuntime) {
     }
 }
 
-/// The first request of a client of a URL, with these lines.
+/// Returns the first request of a client of a URL, with the lines `lines`.
 fn url_request(
     alloc: Global,
     authority: &[u8],

@@ -17,19 +17,19 @@ use cog_reader_support::{Fixture, Want};
 use std::test::Fail;
 use tiff_dir::FileFault;
 
-/// The first block.
+/// The positions of the first block.
 const FRONT: Positions = (0, 16383);
 
-/// The head of a whole file that is a byte longer than f2.
+/// The head of an answer with a whole file that is one byte longer than f2.
 const LONGER: &[u8] = b"HTTP/1.1 200 OK\r\nETag: \"1-1\"\r\nContent-Length: 67707\r\n\r\n";
 
-/// The file f2 is replaced by f1.
+/// The file f2, replaced by f1.
 const F2_BY_F1: Revisions<'static> = Revisions {
     files: [Fixture::F2, Fixture::F1],
     ..F2_TWICE
 };
 
-/// Before the first request, after `open`, `forget` or a request for nothing, and while a report stands.
+/// Answers before the first request, after `open`, `forget` or a request for nothing, and while a report stands.
 const NOTHING_ASKED: [Step<'static>; 21] = [
     Ignores(Part(0, 0, 65535), 12),
     AsksNothing,
@@ -54,7 +54,7 @@ const NOTHING_ASKED: [Step<'static>; 21] = [
     AsksNothing,
 ];
 
-/// Whatever its length and place, and however alike the tags are.
+/// Parts of another revision, of whatever length and place, and however alike the tags are.
 const OTHER_REVISION: [Step<'static>; 10] = [
     Ignores(Part(1, 65536, 67705), 10),
     Ignores(Part(1, 0, 65535), 10),
@@ -68,7 +68,8 @@ const OTHER_REVISION: [Step<'static>; 10] = [
     Reports(OLD, OF_ONES),
 ];
 
-/// A byte shorter, a byte longer or without bytes; in a part or a whole file, inside of what is asked or beside it.
+/// Answers with another length of the file: a byte shorter, a byte longer, or no bytes. They have a part or a whole file, inside of what is
+/// asked or beside it.
 const OTHER_LENGTH: [Step<'static>; 11] = [
     Ignores(PartOf(0, 65536, 67704, 67705), 11),
     Ignores(PartOf(0, 0, 65535, 67705), 11),
@@ -83,7 +84,7 @@ const OTHER_LENGTH: [Step<'static>; 11] = [
     Reports(OLD, OF_ONES),
 ];
 
-/// Answers of which nothing that is asked is left, and the same with one byte more.
+/// A row has an answer without any byte that is asked, and the same with one byte more.
 const CUTS: [(Answer<'static>, Answer<'static>); 6] = [
     (CutPart(0, 65000, 65536, 1), Part(0, 65000, 65536)),
     (CutPart(0, 65536, 65536, 1), Part(0, 65536, 65536)),
@@ -96,7 +97,7 @@ const CUTS: [(Answer<'static>, Answer<'static>); 6] = [
     (CutWhole(0, 2170), CutWhole(0, 2169)),
 ];
 
-/// How many bytes at the end of a whole file of another revision are lost, and what lacks then.
+/// A row has how many bytes at the end of a whole file of another revision are lost, and the positions that are missing then.
 const FRONTS: [(usize, Positions); 5] = [
     (67706, FRONT),
     (51323, FRONT),
@@ -128,7 +129,7 @@ const BESIDE_THE_FRONT: [Step<'static>; 13] = [
     TakesMore(Part(0, 32767, 32767), 0),
 ];
 
-/// What is asked stays until the next request: one answer again, or the blocks in several answers.
+/// What is asked stays the same until the next request. One answer comes again, or the blocks come in several answers.
 const SEVERAL_ANSWERS: [Step<'static>; 13] = [
     Takes(Part(0, 16384, 32767), 1),
     Stands(Some(FIRST), Some(OLD)),
@@ -155,7 +156,7 @@ const BLOCKS_BESIDE: [Step<'static>; 7] = [
     Asks((16384, 32767), Some(OLD)),
 ];
 
-/// The answer again: it is of the client's revision then.
+/// The answer comes again: it is of the client's revision then.
 const BACK_AGAIN: [Step<'static>; 6] = [
     Restarts(Whole(1)),
     TakesMore(Whole(1), 0),
@@ -165,7 +166,7 @@ const BACK_AGAIN: [Step<'static>; 6] = [
     Reports(OLD, OF_ONES),
 ];
 
-/// The new file is another image.
+/// The new file has another image.
 const TO_THE_REPORT: [Step<'static>; 6] = [
     Restarts(Whole(1)),
     Reports(NEW, Want::Fault(FileFault::Outside)),

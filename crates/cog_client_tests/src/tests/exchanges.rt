@@ -10,24 +10,24 @@ use cog_client_support::{
 use cog_reader_support::{Fixture, Want};
 use std::test::Fail;
 
-/// The last tile of f2, and of f2b.
+/// The last tiles of f2 and of f2b.
 pub const OF_ONES: Want<'static> = Want::Window(16, 16, 1, 8, &[0xff; 256]);
 
 pub const OF_ZEROS: Want<'static> = Want::Window(16, 16, 1, 8, &[0; 256]);
 
-/// A window of f1, and of f1m.
+/// The same window of f1 and of f1m.
 const SMALL: Want<'static> = Want::Window(3, 2, 1, 8, &[0x12, 0x13, 0x14, 0x22, 0x23, 0x24]);
 
 /// The tag of the first publication of a later epoch.
 const LATER: &str = "\"2-1\"";
 
-/// The file f2 is published again in a later epoch.
+/// The file f2, published again in a later epoch.
 const F2_LATER: Revisions<'static> = Revisions {
     tags: [OLD, LATER],
     ..F2_TWICE
 };
 
-/// The file f1 is replaced by one with the other byte order.
+/// The file f1, replaced by one with the other byte order.
 const F1: Revisions<'static> = Revisions {
     files: [Fixture::F1, Fixture::F1m],
     ..F2_TWICE
@@ -57,7 +57,7 @@ const TWO_ANSWERS: [Step<'static>; 7] = [
     AsksNothing,
 ];
 
-/// An answer of the first publication comes late, too.
+/// Steps in which an answer of the first publication comes late, too.
 const REPLACED: [Step<'static>; 8] = [
     Restarts(Whole(1)),
     IsSilent,
@@ -76,7 +76,7 @@ const LATER_EPOCH: [Step<'static>; 4] = [
     Reports(LATER, OF_ONES),
 ];
 
-/// The head has 171 bytes: fronts of 170 and 16554 bytes.
+/// Steps with fronts of 170 and 16,554 bytes. The head has 171 bytes.
 const NO_WHOLE_BLOCK: [Step<'static>; 4] = [
     Ignores(CutPart(0, 0, 65535, 65537), 1),
     Asks(FIRST, None),
@@ -84,7 +84,7 @@ const NO_WHOLE_BLOCK: [Step<'static>; 4] = [
     Asks((0, 16383), Some(OLD)),
 ];
 
-/// A front of 16555 bytes.
+/// Steps with a front of 16,555 bytes.
 const WHOLE_BLOCK: [Step<'static>; 2] = [
     Takes(CutPart(0, 0, 65535, 49152), 1),
     Asks(END, Some(OLD)),

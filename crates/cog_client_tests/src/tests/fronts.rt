@@ -1,4 +1,4 @@
-//! Every front of an answer, each to a new client: whole, by single bytes, and in pieces of 171 bytes.
+//! Every front of an answer, each to a new client: whole, byte by byte, and in pieces of 171 bytes.
 use super::only;
 use assertion_support::expect_eq;
 use cog_client_support::Answer::{Part, Text};
@@ -10,8 +10,8 @@ use std::ops::Range;
 use std::process::Abort;
 use std::test::Fail;
 
-/// The number of the first step that goes otherwise, where a new client is answered with a front that has so many bytes of the
-/// body, or a front of the head alone.
+/// Returns the number of the first step that doesn't go as expected. A new client is answered with a front that has `body` bytes of the
+/// body, or with a front of the head alone.
 fn front_otherwise(
     alloc: Global,
     files: &[Publication<'_>],
@@ -27,10 +27,10 @@ fn front_otherwise(
     otherwise_by(alloc, files, &[&ASKS_FRONT, &steps], piece)
 }
 
-/// How a front comes: its head has 171 bytes.
+/// How a front comes. Its head has 171 bytes.
 const WAYS: [Option<usize>; 3] = [None, Some(1), Some(171)];
 
-/// The first front of the answer that is taken otherwise, of those with so many bytes.
+/// Returns the length of the first front of the answer that isn't taken as expected, of the lengths `lens`.
 fn len_otherwise(
     alloc: Global,
     files: &[Publication<'_>],
@@ -48,7 +48,7 @@ fn len_otherwise(
     Ok(None)
 }
 
-/// Expects what fronts of so many bytes do, of the first answer of two exchanges. Its head has 171 bytes, its body 65,536.
+/// Expects what fronts of the lengths `lens` do, of the first answer of two exchanges. Its head has 171 bytes, and its body has 65,536.
 fn expect_fronts(rt: &(impl Abort + AllocGlobal), lens: Range<u32>) -> Result<(), Fail> {
     let file = f2(rt.alloc())?;
     let files = only(&file);

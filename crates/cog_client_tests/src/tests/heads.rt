@@ -1,4 +1,4 @@
-//! Answers that no server of ours sends.
+//! Answers that our server never sends.
 use super::expect;
 use assertion_support::expect_eq;
 use cog_client_support::Answer::{self, Bytes, LongPart, Part, PartOf, Text, WholeOf};
@@ -11,7 +11,7 @@ use std::alloc::{AllocError, Global};
 use std::test::Fail;
 use tiff_dir::FileFault;
 
-/// Heads, and the numbers under which they are ignored.
+/// A row has a head, and the number under which it is ignored.
 #[rattlefmt::skip]
 const REFUSED: [(&str, u8); 14] = [
     ("HTTP/1.1 206 Partial Content\r\nETag: \"1-1\"\r\nContent-Range: bytes 0-9/5\r\nContent-Length: 10\r\n\r\n", 7),
@@ -30,7 +30,7 @@ const REFUSED: [(&str, u8); 14] = [
     ("HTTP 200 OK\r\n\r\n", 2),
 ];
 
-/// Answers of other statuses.
+/// Answers of other statuses, with their numbers.
 #[rattlefmt::skip]
 const STATUSES: [(&str, u8); 7] = [
     ("HTTP/1.1 304 Not Modified\r\nETag: \"1-1\"\r\nConnection: close\r\n\r\n", 3),
@@ -42,12 +42,12 @@ const STATUSES: [(&str, u8); 7] = [
     ("HTTP/1.1 201 Created\r\nETag: \"1-1\"\r\nContent-Length: 0\r\n\r\n", 3),
 ];
 
-/// The greatest length of a file: the last byte has position 18446744073709551614.
+/// The greatest length of a file. The last byte has position 18446744073709551614.
 const GREATEST: usize = 18446744073709551615;
 
 const LAST: usize = 18446744073709551614;
 
-/// What is missing behind the first bytes of the greatest file.
+/// The positions that are missing after the first bytes of the greatest file.
 const SIXTH: Positions = (65536, 81919);
 
 /// A head of 32 fields.
@@ -66,7 +66,7 @@ const MORE_FIELDS: &str = "HTTP/1.1 200 OK\r\nETag: \"1\"\r\nContent-Length: 0\r
 
 const FIELDS: [Step<'static>; 2] = [Refuses(&[(MORE_FIELDS, 2)]), Takes(Text(MOST_FIELDS), 0)];
 
-/// The rest of the file comes after the announced bytes.
+/// Steps where the rest of the file comes after the announced bytes.
 const LONG_BODIES: [Step<'static>; 5] = [
     Takes(LongPart(0, 0, 16382, 67705), 0),
     Asks((0, 16383), Some(OLD)),
@@ -81,7 +81,7 @@ const LONG_FIRST_BODY: [Step<'static>; 3] = [
     Asks((16384, 32767), Some(OLD)),
 ];
 
-/// Before the first revision and with one, whether something is asked or not.
+/// Steps with refused heads before the first revision and with one, whether something is asked or not.
 const REFUSED_HEADS: [Step<'static>; 13] = [
     Opens(240, 240, 16, 16),
     Refuses(&REFUSED),
@@ -98,7 +98,7 @@ const REFUSED_HEADS: [Step<'static>; 13] = [
     Asks(END, Some(OLD)),
 ];
 
-/// It has no header.
+/// Steps with a file without bytes, and so without a header.
 const NO_BYTES: [Step<'static>; 2] = [
     Takes(WholeOf("\"0\"", b""), 0),
     Reports("\"0\"", Want::Fault(FileFault::PastEnd)),
@@ -142,7 +142,7 @@ fn reads_a_file_of_the_greatest_length(rt: HostRuntime) -> Result<(), Fail> {
     expect(&rt, &F2_TWICE, &[&ASKS_FRONT, &GREATEST_LENGTH])
 }
 
-/// Pieces of a first revision that bring no byte of what is asked.
+/// Parts of a first revision that bring no byte that is asked.
 const BESIDE: [Answer<'static>; 3] = [
     Bytes(OLD, LAST, b"x", GREATEST),
     Part(0, 65536, 67705),
@@ -164,7 +164,7 @@ fn adopts_a_revision_of_which_it_gets_no_block(rt: HostRuntime) -> Result<(), Fa
     Ok(())
 }
 
-/// A head that has so many bytes before its end.
+/// Returns a head that has `len` bytes before its end.
 fn long_line(alloc: Global, len: usize, end: &[u8]) -> Result<Vec<u8>, AllocError> {
     let front = b"HTTP/1.1 200 OK\r\nETag: \"1\"\r\nContent-Length: 0\r\nA: ";
     let mut text = Vec::from_slice(alloc, front)?;
@@ -173,7 +173,7 @@ fn long_line(alloc: Global, len: usize, end: &[u8]) -> Result<Vec<u8>, AllocErro
     Ok(text)
 }
 
-/// Bytes of a head before its end, the end, and the number under which it is ignored, if it is.
+/// A row has the number of bytes of a head before its end, and the end. Then comes the number under which the head is ignored, if it is.
 const LONG_LINES: [(usize, &[u8], Option<u8>); 5] = [
     (4095, b"", Some(1)),
     (4096, b"", Some(2)),
@@ -182,7 +182,7 @@ const LONG_LINES: [(usize, &[u8], Option<u8>); 5] = [
     (4092, b"\r\n\r\n", None),
 ];
 
-/// The number of the first step that goes otherwise, where a new client is answered with a head alone.
+/// Returns the number of the first step that doesn't go as expected, where a new client is answered with a head alone.
 fn head_otherwise(
     alloc: Global,
     head: &[u8],
@@ -195,7 +195,7 @@ fn head_otherwise(
     otherwise(alloc, &[], &[&ASKS_FRONT, &[step]])
 }
 
-/// The first of these heads that is taken otherwise.
+/// Returns the first of these heads that isn't taken as expected.
 fn line_otherwise(alloc: Global) -> Result<Option<usize>, NotDone> {
     for (len, end, number) in LONG_LINES {
         let head = long_line(alloc, len, end)?;

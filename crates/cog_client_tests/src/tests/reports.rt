@@ -12,7 +12,7 @@ use std::process::Abort;
 use std::test::Fail;
 use tiff_dir::{FileFault, Pick, Query};
 
-/// The number of the first step that goes otherwise, where a new client is answered with all bytes of a file of one block.
+/// Returns the number of the first step that doesn't go as expected. A new client is answered with all bytes of a file of one block.
 fn exchange_otherwise(
     alloc: Global,
     file: &[u8],
@@ -38,13 +38,13 @@ const FACTS_OF_F1: Facts<'static> = Facts {
     ..NO_FACTS
 };
 
-/// What Info tells of f3 without its scale.
+/// The contents of Info of f3 without its scale.
 const WITHOUT_SCALE: Facts<'static> = Facts {
     scale: None,
     ..FACTS_OF_F3
 };
 
-/// A file, bytes that are put at a place of it, and the outcome of Info.
+/// A row has a file, bytes that are put at a place in it, and the outcome of Info.
 const INFO: [(Fixture, (usize, &[u8]), Want<'static>); 4] = [
     (
         Fixture::F1,
@@ -53,7 +53,7 @@ const INFO: [(Fixture, (usize, &[u8]), Want<'static>); 4] = [
     ),
     (Fixture::F1, (0, b""), Want::Info(FACTS_OF_F1)),
     (Fixture::F3, (0, b""), Want::Info(FACTS_OF_F3)),
-    // A tag that isn't named, of an unknown type, in the place of the scale's.
+    // A tag that isn't named, of an unknown type, stands instead of the scale's.
     (
         Fixture::F3,
         (118, &[0x0f, 0x83, 0xff]),
@@ -61,7 +61,7 @@ const INFO: [(Fixture, (usize, &[u8]), Want<'static>); 4] = [
     ),
 ];
 
-/// Bytes that are put at a place of f1, and the fault of the window of its first pixel.
+/// A row has bytes that are put at a place in f1, and the fault of the window of its first pixel.
 const FAULTS_OF_F1: [(usize, &[u8], FileFault); 16] = [
     (0, b"IM", FileFault::Header),
     (2, &[43], FileFault::Header),
@@ -81,7 +81,7 @@ const FAULTS_OF_F1: [(usize, &[u8], FileFault); 16] = [
     (118, &[8, 0, 0, 0], FileFault::TooManyDirs),
 ];
 
-/// Expects the outcome of a query of a changed file. Those of more than a block are passed over.
+/// Expects the outcome of a query of a changed file. A file of more than one block is passed over.
 fn expect_report(
     rt: &(impl Abort + AllocGlobal),
     fixture: Fixture,
@@ -131,7 +131,7 @@ fn reports_info_of_one_answer(rt: HostRuntime) -> Result<(), Fail> {
     Ok(())
 }
 
-/// The samples of level 0 of f3: every one of tile t is 16 + t.
+/// Returns the samples of level 0 of f3. Each sample of tile t is 16 + t.
 fn large_samples(alloc: Global) -> Result<Vec<u8>, NotDone> {
     let mut samples = Vec::new(alloc);
     for row in 0..32u8 {
@@ -142,7 +142,7 @@ fn large_samples(alloc: Global) -> Result<Vec<u8>, NotDone> {
     Ok(samples)
 }
 
-/// The samples of level 1 of f3: every one of row r is r.
+/// Returns the samples of level 1 of f3. Each sample of row r is r.
 fn small_samples(alloc: Global) -> Result<Vec<u8>, NotDone> {
     let mut samples = Vec::new(alloc);
     for row in 0..16u8 {
@@ -151,14 +151,14 @@ fn small_samples(alloc: Global) -> Result<Vec<u8>, NotDone> {
     Ok(samples)
 }
 
-/// The first step that goes otherwise where f3 is asked for the level that has so many columns.
+/// Returns the first step that doesn't go as expected where f3 is asked for the level of `columns` columns.
 fn level_otherwise(alloc: Global, columns: u32, want: Want<'_>) -> Result<Option<usize>, NotDone> {
     let file = Fixture::F3.file(alloc)?;
     let query = window((0, 0, 32, 32, Pick::Columns(columns)));
     exchange_otherwise(alloc, &file, query, want)
 }
 
-/// The first step that goes otherwise where f1 lacks its last byte.
+/// Returns the first step that doesn't go as expected where f1 lacks its last byte.
 fn short_otherwise(alloc: Global) -> Result<Option<usize>, NotDone> {
     let mut file = Fixture::F1.file(alloc)?;
     file.truncate(377);
@@ -179,7 +179,7 @@ fn picks_the_least_level_of_so_many_columns(rt: HostRuntime) -> Result<(), Fail>
     Ok(())
 }
 
-/// The first front of f1 whose window isn't told as a fault.
+/// Returns the length of the first front of f1 whose window isn't reported as a fault.
 fn front_of_f1_otherwise(alloc: Global) -> Result<Option<usize>, NotDone> {
     let file = Fixture::F1.file(alloc)?;
     for len in 1..file.len() {
@@ -192,7 +192,8 @@ fn front_of_f1_otherwise(alloc: Global) -> Result<Option<usize>, NotDone> {
     Ok(None)
 }
 
-/// The first front of f3 whose info is told otherwise than from the first 400 bytes, which have the directories and the keys.
+/// Returns the length of the first front of f3 whose Info isn't reported as expected. A front needs the first 400 bytes, which have the
+/// directories and the keys.
 fn front_of_f3_otherwise(alloc: Global) -> Result<Option<usize>, NotDone> {
     let file = Fixture::F3.file(alloc)?;
     for len in 1..file.len() {
@@ -221,7 +222,7 @@ fn reports_a_fault_where_the_last_byte_lacks(rt: HostRuntime) -> Result<(), Fail
     Ok(())
 }
 
-/// Windows of two levels of f3 in turn.
+/// Windows of two levels of f3, in turn.
 const LARGE: Want<'static> = Want::Window(2, 1, 1, 8, &[0x10, 0x11]);
 
 const THIN_WINDOW: Query = Query::Window {

@@ -1,4 +1,4 @@
-//! The reader beside the plain program's faults: it tells one that stands, and a window or Info exactly where none does.
+//! The reader beside the plain program's faults. It reports a fault that stands, and it reports a window or Info exactly where none does.
 use assertion_support::expect_eq;
 use cog_reader::{Outcome, read_file};
 use cog_reader_support::Fixture;
@@ -43,7 +43,7 @@ const QUERIES: [Query; 4] = [
     Query::Info,
 ];
 
-/// Compares what the reader tells of a query of the file with the faults that stand. Whether it is no fault.
+/// Compares the reader's outcome of a query of the file with the faults that stand. Returns whether the outcome is no fault.
 fn compare<R: Abort + AllocGlobal>(
     rt: &R,
     file: &[u8],
@@ -70,7 +70,7 @@ fn compare<R: Abort + AllocGlobal>(
     }
 }
 
-/// Asks each query of a file.
+/// Asks each query of a file, and compares.
 fn compare_queries<R: Abort + AllocGlobal>(rt: &R, file: &[u8], name: &str) -> Result<(), Fail> {
     for query in QUERIES {
         compare(rt, file, query, name)?;
@@ -78,7 +78,7 @@ fn compare_queries<R: Abort + AllocGlobal>(rt: &R, file: &[u8], name: &str) -> R
     Ok(())
 }
 
-/// Asks a query at random of each of 1,700 files that are made of a fixture by changing one or two of its first 400 bytes.
+/// Asks a random query of each of 1,700 changed files. Each is a fixture with one or two of its first 400 bytes changed.
 fn compare_changed<R: Abort + AllocGlobal>(
     rt: &R,
     fixture: Fixture,
@@ -134,7 +134,7 @@ fn answers_each_query_of_a_fixture_or_is_outside(rt: HostRuntime) -> Result<(), 
             }
         }
     }
-    // f3 answers all four queries, f4 all but its level 1, the others all but that and the window of 17 by 17.
+    // f3 answers all four queries. f4 answers all but that of level 1. The others answer all but that and the window of 17 by 17.
     expect_eq!(rt; answered, 4 + 3 + 4 * 2);
     Ok(())
 }

@@ -1,4 +1,4 @@
-//! Fixtures in which a few bytes are changed.
+//! Fixtures with a few changed bytes.
 use super::image::{Answer, Image};
 use cog_reader_support::{Fixture, Want, change, is_wanted, of_level};
 use std::alloc::{AllocError, Global};
@@ -6,7 +6,8 @@ use std::process::Abort;
 use std::test::Fail;
 use tiff_dir::{FileFault, Query};
 
-/// Bytes that are put at a place of f1, the fault of the window 0 0 1 1, and how many ranges were wanted before it.
+/// A row has a place in f1, the bytes that are put there, and the fault of the window `0 0 1 1`. Then comes how many ranges were wanted
+/// before it.
 const ONE_TILE: [(usize, &[u8], FileFault, usize); 16] = [
     (0, b"IM", FileFault::Header, 1),
     (2, &[43], FileFault::Header, 1),
@@ -27,7 +28,7 @@ const ONE_TILE: [(usize, &[u8], FileFault, usize); 16] = [
     (118, &[8, 0, 0, 0], FileFault::TooManyDirs, 33),
 ];
 
-/// Expects the outcome of a query of the file, and how many ranges were wanted. A failure tells the row's name.
+/// Expects the outcome of a query of the file, and how many ranges were wanted. A failure prints the row's name.
 fn expect(
     rt: &(impl Abort + AllocGlobal),
     name: &str,
@@ -56,7 +57,7 @@ fn tells_the_fault_of_a_changed_file(rt: HostRuntime) -> Result<(), Fail> {
     Ok(())
 }
 
-/// The four offsets of a level's tiles are that of the first: each tile is a group.
+/// Expects a group for each tile where the four offsets of a level's tiles are that of the first.
 #[test]
 fn reads_one_segment_four_times(rt: HostRuntime) -> Result<(), Fail> {
     let mut file = Fixture::F3.file(rt.alloc())?;
@@ -67,7 +68,7 @@ fn reads_one_segment_four_times(rt: HostRuntime) -> Result<(), Fail> {
     expect(&rt, "f3", file, of_level(15, 15, 2, 2, 0), (want, 11))
 }
 
-/// Bytes that are put at a place of f3, the fault of Info, and how many ranges were wanted before it.
+/// A row has a place in f3, the bytes that are put there, and the fault of Info. Then comes how many ranges were wanted before it.
 const TWO_LEVELS: [(usize, &[u8], FileFault, usize); 8] = [
     (134, &[0xff, 0xff, 0xff, 0xff], FileFault::TooLarge, 5),
     (120, &[11], FileFault::FieldType(33550), 5),
@@ -79,7 +80,7 @@ const TWO_LEVELS: [(usize, &[u8], FileFault, usize); 8] = [
     (362, &[5], FileFault::KeyPlace, 9),
 ];
 
-/// Faults of the geo fields are faults for Info alone.
+/// Expects that faults of the geo fields are faults for Info alone.
 #[test]
 fn tells_faults_of_geo_fields_for_info_alone(rt: HostRuntime) -> Result<(), Fail> {
     for (place, bytes, fault, ranges) in TWO_LEVELS {
@@ -93,8 +94,8 @@ fn tells_faults_of_geo_fields_for_info_alone(rt: HostRuntime) -> Result<(), Fail
     Ok(())
 }
 
-/// What a row tells, a fixture, bytes that are put at places of it, the window's width and height from 0 0 in level 0 or Info,
-/// the fault that is told first, and how many ranges were wanted before it.
+/// A row has what it shows, a fixture, bytes that are put at places in it, and a query. That is the width and the height of the window from
+/// 0 0 in level 0, or Info. Then come the fault that is reported first, and how many ranges were wanted before it.
 type Ordered = (
     &'static str,
     Fixture,
@@ -119,7 +120,7 @@ const ORDERS: [Ordered; 11] = [
     ("a depth of 12 before tiles of no side", Fixture::F6, &[(42, &[12]), (78, &[0])], Some((1, 1)), FileFault::Unsupported(258), 3),
 ];
 
-/// A fixture with other bytes at some places.
+/// Returns a fixture with other bytes at some places.
 fn changed(
     alloc: Global,
     fixture: Fixture,

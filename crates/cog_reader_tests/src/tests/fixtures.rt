@@ -10,7 +10,7 @@ use std::process::Abort;
 use std::test::Fail;
 use tiff_dir::{Memory, Pick};
 
-/// Whether a reader of the file has this outcome for a window, range by range.
+/// Returns whether a reader of the file has this outcome for a window, range by range.
 fn reads(alloc: Global, file: Vec<u8>, numbers: Numbers, want: &Outcome) -> Result<bool, Memory> {
     let mut image = Image::new(alloc, file);
     has_outcome(alloc, &mut image, numbers, want)
@@ -26,7 +26,7 @@ fn has_outcome(
     Ok(outcome == Some(want))
 }
 
-/// Whether the outcome of a row comes from the whole file, and range by range.
+/// Returns whether the outcome of a row comes from the whole file, and range by range.
 fn is_right(alloc: Global, (fixture, changed, numbers, want): WindowRow) -> Result<bool, Memory> {
     let mut file = fixture.file(alloc)?;
     change(&mut file, changed.0, changed.1);
@@ -60,7 +60,7 @@ fn reads_windows_of_changed_fixtures(rt: HostRuntime) -> Result<(), Fail> {
     Ok(())
 }
 
-/// The bytes of the window that is asked of f3.
+/// Returns the window `numbers` of f3.
 fn pixels_of_f3(rt: &impl AllocGlobal, numbers: Numbers) -> Result<Window, Fail> {
     let file = Fixture::F3.file(rt.alloc())?;
     match read_file(rt.alloc(), &file, window(numbers)) {

@@ -7,7 +7,7 @@ use cog_reader::{Outcome, Reader};
 use std::alloc::Global;
 use tiff_dir::{Compression, Memory, Query, Span};
 
-/// The bytes of four tiles of 16 by 16 samples of 8 bits.
+/// The number of bytes of four tiles of 16 by 16 samples of 8 bits.
 const UNPACKED: usize = 1024;
 
 /// A file and its reader.
@@ -17,14 +17,14 @@ pub struct Image {
     reader: Reader,
 }
 
-/// What was wanted for a query, in turn, and its outcome. There is none where a wanted range isn't in the file.
+/// The ranges that were wanted for a query, in turn, and its outcome. There is none where a wanted range isn't in the file.
 #[derive(Drop)]
 pub struct Answer<'a> {
     pub wanted: Vec<Span>,
     pub outcome: Option<&'a Outcome>,
 }
 
-/// The bytes of a file in a span.
+/// Returns the bytes of a file in a span.
 pub fn part(file: &[u8], span: Span) -> Option<&[u8]>
     ensures { IfSome result (λ bytes. length bytes.now ≡ (extent_of_span span).len) }
 {
@@ -32,7 +32,8 @@ pub fn part(file: &[u8], span: Span) -> Option<&[u8]>
     file.get(span.first as usize..end as usize)
 }
 
-/// Gives the reader what it wants until there is an outcome, and lists it: tiles in small pieces, and all else in one.
+/// Gives the reader the ranges that it wants until there is an outcome, and returns these. It gives tiles in small pieces, and all else in
+/// one piece.
 fn read(alloc: Global, reader: &mut Reader, file: &[u8]) -> Result<Vec<Span>, Memory> {
     let mut wanted = Vec::new(alloc);
     while let Some(span) = reader.need()? {
@@ -53,18 +54,18 @@ fn read(alloc: Global, reader: &mut Reader, file: &[u8]) -> Result<Vec<Span>, Me
 }
 
 impl Image {
-    /// A file of which nothing is read. Its reader keeps a few tiles unpacked.
+    /// Makes an image of a file of which nothing was read. Its reader keeps a few tiles unpacked.
     pub fn new(alloc: Global, file: Vec<u8>) -> Image {
         let reader = Reader::keeping(alloc, file.len() as u64, UNPACKED);
         Image { file, reader }
     }
 
-    /// Puts a new reader in the place of the one before, which keeps no tile unpacked.
+    /// Puts a new reader instead of the one before. It keeps no tile unpacked.
     pub fn renew(&mut self, alloc: Global) {
         self.reader = Reader::new(alloc, self.file.len() as u64);
     }
 
-    /// Asks a query, and gives the first so many ranges that are wanted.
+    /// Asks a query, and gives the first `count` ranges that are wanted.
     pub fn begin(&mut self, query: Query, count: usize) -> Result<(), Memory> {
         self.reader.open(query);
         for _ in 0..count {
@@ -79,17 +80,17 @@ impl Image {
         Ok(())
     }
 
-    /// The range that is wanted next.
+    /// Returns the range that is wanted next.
     pub fn need(&mut self) -> Result<Option<Span>, Memory> {
         self.reader.need()
     }
 
-    /// What answers the query, taken out of the reader.
+    /// Takes the outcome of the query out of the reader.
     pub fn take_outcome(&mut self) -> Option<Outcome> {
         self.reader.take_outcome()
     }
 
-    /// The answer to a query.
+    /// Returns the answer to a query.
     pub fn answer(&mut self, alloc: Global, query: Query) -> Result<Answer<'_>, Memory> {
         self.reader.open(query);
         let wanted = read(alloc, &mut self.reader, &self.file)?;

@@ -1,4 +1,4 @@
-//! Queries in turn on one reader: only what isn't kept is wanted again.
+//! Queries in turn on one reader. It wants only what it doesn't keep.
 use super::image::{Answer, Image};
 use super::{Range, are_ranges};
 use cog_reader::{Outcome, read_file};
@@ -10,16 +10,16 @@ use tiff_dir::{FileFault, Memory, Pick, Query};
 /// The header of f3, and its directories.
 const DIRECTORIES: [Range; 5] = [(0, 8), (8, 2), (10, 160), (170, 2), (172, 124)];
 
-/// The tile arrays of its first level.
+/// The tile arrays of the first level of f3.
 const FIRST: [Range; 2] = [(296, 16), (312, 16)];
 
-/// The tile arrays of its second level, which stand in their entries.
+/// The tile arrays of the second level of f3, which stand in their entries.
 const SECOND: [Range; 2] = [(276, 4), (288, 4)];
 
-/// Its geo fields.
+/// The geo fields of f3.
 const GEO: [Range; 4] = [(352, 32), (384, 8), (392, 8), (328, 24)];
 
-/// The ranges one after another.
+/// Returns the ranges one after another.
 fn joined(alloc: Global, parts: &[&[Range]]) -> Result<Vec<Range>, AllocError> {
     let mut ranges = Vec::new(alloc);
     for part in parts {
@@ -35,15 +35,15 @@ enum Step<'a> {
     Answers(Numbers, &'a [&'a [Range]], Want<'a>),
     /// Info wants these ranges, and has the outcome of a new reader.
     Informs(&'a [&'a [Range]]),
-    /// A window is asked, and the first so many ranges are given.
+    /// A window is asked, and the first ranges of this count are given.
     Begins(Numbers, usize),
-    /// This range is wanted next, or none.
+    /// This range is wanted next, or none is.
     Needs(Option<Range>),
     /// This outcome is taken out, or there is none.
     Yields(Option<Want<'a>>),
 }
 
-/// Whether the answer to a query wants these ranges, and has this outcome.
+/// Returns whether the answer to a query wants these ranges, and has this outcome.
 fn answers(
     alloc: Global,
     image: &mut Image,
@@ -56,7 +56,7 @@ fn answers(
     Ok(are_ranges(&wanted, &ranges) && is_wanted(outcome, want))
 }
 
-/// Whether Info wants these ranges, and has the outcome of a new reader.
+/// Returns whether Info wants these ranges, and has the outcome of a new reader.
 fn informs(alloc: Global, image: &mut Image, parts: &[&[Range]]) -> Result<bool, Memory> {
     let ranges = joined(alloc, parts)?;
     let whole = read_file(alloc, &image.file, Query::Info)?;
@@ -68,7 +68,7 @@ fn informs(alloc: Global, image: &mut Image, parts: &[&[Range]]) -> Result<bool,
     )
 }
 
-/// Whether this range is wanted next, or none.
+/// Returns whether this range is wanted next, or none is.
 fn needs(image: &mut Image, range: Option<Range>) -> Result<bool, Memory> {
     match (image.need()?, range) {
         (Some(span), Some(range)) => Ok(are_ranges(&[span], &[range])),
@@ -77,7 +77,7 @@ fn needs(image: &mut Image, range: Option<Range>) -> Result<bool, Memory> {
     }
 }
 
-/// Whether this outcome is taken out, or there is none.
+/// Returns whether this outcome is taken out, or there is none.
 fn yields(image: &mut Image, want: Option<Want<'_>>) -> bool {
     match (image.take_outcome(), want) {
         (Some(outcome), Some(want)) => is_wanted(Some(&outcome), want),
@@ -86,7 +86,7 @@ fn yields(image: &mut Image, want: Option<Want<'_>>) -> bool {
     }
 }
 
-/// Does a step, and says whether it went as expected.
+/// Does a step. Returns whether it went as expected.
 fn goes(alloc: Global, image: &mut Image, step: Step<'_>) -> Result<bool, Memory> {
     match step {
         Step::Answers(numbers, parts, want) => answers(alloc, image, numbers, parts, want),
@@ -100,7 +100,7 @@ fn goes(alloc: Global, image: &mut Image, step: Step<'_>) -> Result<bool, Memory
     }
 }
 
-/// The number of the first step that went otherwise than expected.
+/// Returns the number of the first step that didn't go as expected.
 fn first_otherwise(
     alloc: Global,
     image: &mut Image,
@@ -114,7 +114,7 @@ fn first_otherwise(
     Ok(None)
 }
 
-/// The same of a new reader of a file.
+/// Returns the same for a new reader of a file.
 fn otherwise(alloc: Global, file: Vec<u8>, steps: &[Step<'_>]) -> Result<Option<usize>, Memory> {
     let mut image = Image::new(alloc, file);
     first_otherwise(alloc, &mut image, steps)
@@ -133,7 +133,7 @@ const SECOND_TILE: [Range; 1] = [(656, 256)];
 
 const PACKED_TILE: [Range; 1] = [(1424, 32)];
 
-/// What a new reader wants for a window of all tiles of the first level.
+/// The ranges that a new reader wants for a window of all tiles of the first level.
 const ALL_OF_FIRST: [&[Range]; 3] = [&DIRECTORIES, &FIRST, &ALL_TILES];
 
 /// A sample of the second level.
@@ -182,7 +182,7 @@ const INFO_BETWEEN: [Step<'static>; 4] = [
     Step::Answers(CORNER, &[&ALL_TILES], CORNER_SAMPLES),
 ];
 
-/// Before the end there is no outcome to take, and the query goes on. One that is taken leaves nothing asked, and the
+/// Before the end there is no outcome to take out, and the query goes on. After an outcome is taken out nothing is asked, and the
 /// directories and arrays are kept.
 const TAKEN_OUT: [Step<'static>; 8] = [
     Step::Begins(CORNER, 6),
@@ -195,7 +195,7 @@ const TAKEN_OUT: [Step<'static>; 8] = [
     Step::Answers(CORNER, &[&ALL_TILES], CORNER_SAMPLES),
 ];
 
-/// What a course shows, and its steps on a new reader of f3.
+/// A row has what a course shows, and its steps on a new reader of f3.
 type Course = (&'static str, &'static [Step<'static>]);
 
 const COURSES: [Course; 3] = [
@@ -218,7 +218,8 @@ fn wants_only_what_it_has_not_kept(rt: HostRuntime) -> Result<(), Fail> {
     Ok(())
 }
 
-/// A query that is left after so many of its ranges: the next ones want the rest of the directories, and the rest of the arrays.
+/// Leaves a query after `count` of its ranges. The next queries want the rest of the directories, and the rest of the arrays. Returns the
+/// number of the first step that didn't go as expected.
 fn left_after(alloc: Global, count: usize) -> Result<Option<usize>, Memory> {
     let file = Fixture::F3.file(alloc)?;
     let directories = DIRECTORIES.get(count..).unwrap_or(&[]);
@@ -240,7 +241,7 @@ fn keeps_what_a_query_read_that_was_left(rt: HostRuntime) -> Result<(), Fail> {
     Ok(())
 }
 
-/// After a fault of a tile the arrays are kept.
+/// Steps after a fault of a tile: the arrays are kept.
 const AFTER_A_FAULT: [Step<'static>; 3] = [
     Step::Answers(SMALL, &[&DIRECTORIES, &SECOND, &PACKED_TILE], PACKET),
     Step::Answers(SMALL, &[&PACKED_TILE], PACKET),

@@ -1,4 +1,4 @@
-//! What Info says.
+//! The contents of Info.
 use super::image::{Answer, Image};
 use super::{Range, are_ranges};
 use assertion_support::expect_eq;
@@ -11,7 +11,7 @@ use std::alloc::{AllocError, Global};
 use std::test::Fail;
 use tiff_dir::{Memory, Query};
 
-/// The sides of the level of each fixture without geo fields, and what is wanted of it: nothing but the directories.
+/// A row has a fixture without geo fields, the sides of its level, and the ranges that are wanted of it: nothing but the directories.
 const PLAIN: [(Fixture, (u32, u32), &[Range]); 8] = [
     (Fixture::F1, (16, 16), &[(0, 8), (8, 2), (10, 112)]),
     (Fixture::F1m, (16, 16), &[(0, 8), (8, 2), (10, 112)]),
@@ -27,7 +27,7 @@ const PLAIN: [(Fixture, (u32, u32), &[Range]); 8] = [
     (Fixture::F6m, (16, 16), &[(0, 8), (8, 2), (10, 112)]),
 ];
 
-/// Whether Info of a file wants these ranges, and says these facts.
+/// Returns whether Info of a file wants these ranges, and has these contents.
 fn informs(
     alloc: Global,
     image: &mut Image,
@@ -38,7 +38,7 @@ fn informs(
     Ok(are_ranges(&wanted, ranges) && is_wanted(outcome, Want::Info(facts)))
 }
 
-/// The same of a new reader.
+/// Returns the same for a new reader.
 fn is_told(
     alloc: Global,
     file: Vec<u8>,
@@ -63,7 +63,7 @@ fn tells_sides_without_geo_fields(rt: HostRuntime) -> Result<(), Fail> {
     Ok(())
 }
 
-/// Whether Info of a whole file says these facts.
+/// Returns whether Info of a whole file has these contents.
 fn is_said(alloc: Global, file: &[u8], facts: Facts<'_>) -> bool {
     let found = read_file(alloc, file, Query::Info);
     is_wanted(found.ok().as_ref(), Want::Info(facts))
@@ -73,7 +73,7 @@ fn is_said(alloc: Global, file: &[u8], facts: Facts<'_>) -> bool {
 fn tells_the_facts_of_two_levels(rt: HostRuntime) -> Result<(), Fail> {
     let mut file = Fixture::F3.file(rt.alloc())?;
     assert!(rt; is_said(rt.alloc(), &file, FACTS_OF_F3));
-    // An unnamed tag of an unknown type in the place of the scale's.
+    // A tag that isn't named, of an unknown type, stands instead of the scale's.
     change(&mut file, 118, &[0x0f]);
     change(&mut file, 120, &[0xff]);
     let facts = Facts {
@@ -98,7 +98,7 @@ const fn at(tag: u16, kind: FieldType, count: u32, first: u32) -> Field {
     }
 }
 
-/// The fields of a level in one tile, and each of the geo fields.
+/// Returns the fields of a level in one tile, and each of the geo fields.
 fn fields() -> [Field; 15] {
     [
         short(256, 16),
@@ -125,7 +125,7 @@ fn fields() -> [Field; 15] {
     ]
 }
 
-/// A file with each of the geo fields, whose doubles have the bits of 0 to 24, and of 25. Its tile isn't there.
+/// Returns a file with each of the geo fields, whose doubles have the bits of 0 to 24, and of 25. Its tile isn't there.
 fn file_of_all(alloc: Global, order: Order) -> Result<Vec<u8>, AllocError> {
     let mut file = Vec::new(alloc);
     push_header(&mut file, order, 8)?;
@@ -141,7 +141,7 @@ fn file_of_all(alloc: Global, order: Order) -> Result<Vec<u8>, AllocError> {
     Ok(file)
 }
 
-/// Items with the bits of 0 to 24.
+/// Returns items with the bits of 0 to 24.
 fn items() -> [[u8; 8]; 25] {
     let mut items = [[0; 8]; 25];
     for (item, bits) in items.iter_mut().zip(0..25u8) {
@@ -150,7 +150,7 @@ fn items() -> [[u8; 8]; 25] {
     items
 }
 
-/// What Info says of it, but for the items of the model fields.
+/// The contents of Info of this file, without the items of the model fields.
 const FACTS_OF_ALL: Facts<'static> = Facts {
     sides: &[(16, 16)],
     minor: 7,

@@ -9,7 +9,7 @@ use std::process::Abort;
 use std::test::Fail;
 use tiff_dir::{FileFault, Memory, Pick, Query, Span};
 
-/// What is wanted, asked twice if no memory is found.
+/// Returns the range that is wanted. Asks again where memory ran out.
 fn need_again(reader: &mut Reader) -> Result<Option<Span>, Memory>
     ensures wants { IfOk result (Wants reader.new) }
     ensures steps { steps_of reader.new ≤ steps_of reader.old }
@@ -20,7 +20,7 @@ fn need_again(reader: &mut Reader) -> Result<Option<Span>, Memory>
     }
 }
 
-/// Gives the bytes, twice if no memory is found.
+/// Gives the bytes. Gives them again where memory ran out.
 fn give_again(reader: &mut Reader, bytes: &[u8]) -> Result<(), Memory>
     requires { IsWanted reader.old (length bytes.now) }
     ensures { OnOk result (steps_of reader.new < steps_of reader.old) }
@@ -31,7 +31,7 @@ fn give_again(reader: &mut Reader, bytes: &[u8]) -> Result<(), Memory>
     }
 }
 
-/// Gives the reader what it wants, each call being made again if no memory is found.
+/// Gives the reader what it wants. Each call is made again where memory ran out.
 fn read_again(reader: &mut Reader, file: &[u8]) -> Result<(), Memory> {
     while let Some(span) = need_again(reader)? {
         let Some(bytes) = part(file, span) else {
@@ -42,7 +42,7 @@ fn read_again(reader: &mut Reader, file: &[u8]) -> Result<(), Memory> {
     Ok(())
 }
 
-/// Whether this is the whole of level 0 of f3: every sample of tile t, of two by two, is 16 + t.
+/// Returns whether the outcome is the whole of level 0 of f3. Each sample of tile t, of two by two, is 16 + t.
 fn is_whole_level_0(outcome: Option<&Outcome>) -> bool {
     let Some(Outcome::Window(window)) = outcome else {
         return false;
@@ -52,7 +52,7 @@ fn is_whole_level_0(outcome: Option<&Outcome>) -> bool {
         && samples.all(|(at, sample)| usize::from(*sample) == 16 + at / 512 * 2 + at % 32 / 16)
 }
 
-/// Whether this is the whole of level 1 of f3: every sample of row y is y.
+/// Returns whether the outcome is the whole of level 1 of f3. Each sample of row y is y.
 fn is_whole_level_1(outcome: Option<&Outcome>) -> bool {
     let Some(Outcome::Window(window)) = outcome else {
         return false;
@@ -62,7 +62,7 @@ fn is_whole_level_1(outcome: Option<&Outcome>) -> bool {
         && samples.all(|(at, sample)| usize::from(*sample) == at / 16)
 }
 
-/// Whether this is the outcome of the query, one of those of f3 that are asked here.
+/// Returns whether the outcome is that of the query, which is one of those of f3 that are asked here.
 fn is_right(outcome: Option<&Outcome>, query: Query) -> bool {
     if query == window((0, 0, 32, 32, Pick::Columns(16))) {
         is_whole_level_1(outcome)
@@ -78,7 +78,7 @@ fn is_right(outcome: Option<&Outcome>, query: Query) -> bool {
     }
 }
 
-/// A window of plain tiles, one of a packed tile, the whole of each level by its columns, and Info.
+/// Returns a window of plain tiles, one of a packed tile, the whole of each level by its columns, and Info.
 fn queries() -> [Query; 5] {
     [
         of_level(15, 15, 2, 2, 0),
@@ -89,7 +89,7 @@ fn queries() -> [Query; 5] {
     ]
 }
 
-/// The call that finds no memory is made again, and goes on.
+/// Expects that the call that runs out of memory is made again, and goes on.
 #[test]
 fn goes_on_after_refused_memory(rt: HostRuntime) -> Result<(), Fail> {
     let Ok(file) = Fixture::F3.file(rt.alloc()) else {
@@ -104,7 +104,7 @@ fn goes_on_after_refused_memory(rt: HostRuntime) -> Result<(), Fail> {
     Ok(())
 }
 
-/// Expects the outcome of the query, or that it is refused for want of memory. Whether it is refused.
+/// Expects the outcome of the query, or that it fails because memory ran out. Returns whether it fails.
 fn is_refused(rt: &(impl Abort + AllocGlobal), image: &mut Image, query: Query) -> bool {
     match image.answer(rt.alloc(), query) {
         Ok(answer) => {
@@ -115,7 +115,7 @@ fn is_refused(rt: &(impl Abort + AllocGlobal), image: &mut Image, query: Query) 
     }
 }
 
-/// The query that finds no memory is asked again, and answered.
+/// Expects that a query that ran out of memory is answered where it is asked again.
 #[test]
 fn answers_a_query_that_is_asked_again(rt: HostRuntime) -> Result<(), Fail> {
     let Ok(file) = Fixture::F3.file(rt.alloc()) else {

@@ -3,7 +3,7 @@ ghost use Rattle.std.specs.Prelude.{◌-◌, length, min};
 
 use cog_reader::Bytes;
 
-/// How many stand in one piece.
+/// The number of bytes in one piece.
 const PIECE: usize = 7;
 
 /// Bytes that are lent seven at a time.

@@ -40,7 +40,7 @@ const WINDOWS: [Numbers; 18] = [
     (0, 0, 32, 32, Pick::Columns(17)),
 ];
 
-/// Whether these are the same ranges in the same order.
+/// Returns whether these are the same ranges in the same order.
 fn are_same(spans: &[Span], ranges: &[Extent]) -> bool {
     spans.len() == ranges.len()
         && spans
@@ -49,7 +49,7 @@ fn are_same(spans: &[Span], ranges: &[Extent]) -> bool {
             .all(|(span, range)| range.span() == Some(*span))
 }
 
-/// Whether the whole query was read: the fixtures have no fault, so it may only be refused.
+/// Returns whether the whole query was read. The fixtures have no fault, so the only fault is that the window lies outside.
 fn is_complete(outcome: Option<&Outcome>) -> bool {
     match outcome {
         Some(Outcome::Window(_)) | Some(Outcome::Info(_)) => true,
@@ -58,7 +58,7 @@ fn is_complete(outcome: Option<&Outcome>) -> bool {
     }
 }
 
-/// Compares what a new reader wants for the query with what it needs.
+/// Compares the ranges that a new reader wants for the query with those that it needs.
 fn compare(rt: &(impl Abort + AllocGlobal), image: &mut Image, query: Query) -> Result<(), Fail> {
     let ranges = needs(rt.alloc(), &image.file, query)?.ok_or("no ranges")?;
     image.renew(rt.alloc());

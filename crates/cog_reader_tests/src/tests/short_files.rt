@@ -21,7 +21,7 @@ fn tells_past_end_of_every_front(rt: HostRuntime) -> Result<(), Fail> {
     Ok(())
 }
 
-/// Expects what a file answers to Info: a fault up to where its tiles begin, and the same as the whole one from there on.
+/// Expects the outcome of Info. It is a fault up to where the tiles begin, and that of the whole file from there on.
 fn expect_info(rt: &(impl Abort + AllocGlobal), front: &[u8], whole: &Outcome) -> Result<(), Fail> {
     let outcome = read_file(rt.alloc(), front, Query::Info);
     let outcome = outcome.ok().ok_or("no memory")?;
@@ -34,7 +34,7 @@ fn expect_info(rt: &(impl Abort + AllocGlobal), front: &[u8], whole: &Outcome) -
     Ok(())
 }
 
-/// The tiles aren't needed for Info.
+/// Expects that Info doesn't need the tiles.
 #[test]
 fn tells_info_without_the_tiles(rt: HostRuntime) -> Result<(), Fail> {
     let file = Fixture::F3.file(rt.alloc())?;

@@ -24,7 +24,7 @@ impl Compared {
         Ok(Compared { image, plain })
     }
 
-    /// Whether the reader's outcome is a window, and the one that the plain program reads.
+    /// Returns whether the reader's outcome is a window, and the one that the plain program reads.
     fn is_same(&mut self, alloc: Global, query: Query) -> Result<bool, Fail> {
         let Answer { outcome, .. } = self.image.answer(alloc, query).ok().ok_or("no memory")?;
         match outcome {
@@ -36,7 +36,7 @@ impl Compared {
     }
 }
 
-/// Compares the windows of so many columns from `x` on, in a level of so many rows.
+/// Compares the windows of `w` columns from `x` on, in level `n` of `length` rows.
 fn compare_columns(
     rt: &(impl Abort + AllocGlobal),
     compared: &mut Compared,
@@ -81,7 +81,7 @@ fn reads_every_window_of_a_small_level(rt: HostRuntime) -> Result<(), Fail> {
     compare_all(&rt, &mut compared, 1, 16, 16)
 }
 
-/// Where a window begins along a side, and how long it is there.
+/// Returns where a window begins along a side, and its length there.
 fn stretch(numbers: &mut Numbers, side: u32) -> (u32, u32)
     requires { 0 < side }
 {
@@ -93,7 +93,7 @@ fn stretch(numbers: &mut Numbers, side: u32) -> (u32, u32)
 /// The seed of the random windows.
 const SEED: u64 = 1;
 
-/// Compares 1,000 windows of level 0 with each pick: the level by its number, and the least that has so many columns.
+/// Compares 1,000 windows of level 0 with each pick: the level by its number, and the least one that has a random number of columns.
 fn compare_some(
     rt: &(impl Abort + AllocGlobal),
     compared: &mut Compared,

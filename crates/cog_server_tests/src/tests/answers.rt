@@ -6,8 +6,8 @@ use std::alloc::Global;
 use std::process::Abort;
 use std::test::Fail;
 
-/// What an answer is: its head and status, whether it closes and carries the tag of `a`, and the places of its body
-/// in f1.
+/// What an answer is: its head and status, whether it closes, and whether it carries the tag of `a`. Its body has the bytes of f1 from
+/// `from` to before `to`.
 #[derive(Clone, Copy)]
 pub struct Want {
     pub head: &'static [u8],
@@ -18,7 +18,7 @@ pub struct Want {
     pub to: usize,
 }
 
-/// A server that has f1.
+/// Makes a server that has f1.
 pub fn server_of_f1(alloc: Global) -> Result<Server, Fail> {
     let mut server = Server::new(alloc, 1);
     publish(&mut server, b"a", f1(alloc)?)?;
@@ -33,10 +33,10 @@ pub fn publish(server: &mut Server, name: &[u8], file: Vec<u8>) -> Result<(), Fa
     }
 }
 
-/// A message, and its answer.
+/// A row has a message, and its answer.
 pub type Row<'a> = (&'a str, Want);
 
-/// Expects that a message is answered so, by a call and on a stream of this message alone.
+/// Expects this answer to a message, by a call and on a stream of this message alone.
 pub fn expect_answer(
     rt: &(impl Abort + AllocGlobal),
     server: &Server,
@@ -53,7 +53,7 @@ pub fn expect_answer(
     expect_served(rt, server, message.as_bytes(), &[], &text, one)
 }
 
-/// Expects that a message is answered so by a call.
+/// Expects this answer to a message by a call.
 pub fn expect_called(
     rt: &(impl Abort + AllocGlobal),
     server: &Server,
@@ -79,7 +79,7 @@ fn expect_text(
     assert_eq!(rt; (is_begun, rest), (true, Some(body)), "to {message:?}");
 }
 
-/// Expects all of an answer but its text, with so many bytes of body.
+/// Expects all of an answer but its text. Its body has `body` bytes.
 fn expect_values(
     rt: &(impl Abort + AllocGlobal),
     answer: &Answer,
@@ -97,7 +97,7 @@ fn expect_values(
 /// The name under which a server has f1.
 const NAME_OF_F1: Option<&[u8]> = Some(b"a");
 
-/// The name of the file whose tag an answer carries.
+/// Returns the name of the file whose tag an answer carries.
 fn name_of(answer: &Answer) -> Option<&[u8]> {
     match &answer.name {
         Some(name) => Some(name.as_slice()),
@@ -105,7 +105,7 @@ fn name_of(answer: &Answer) -> Option<&[u8]> {
     }
 }
 
-/// The bytes of an answer.
+/// Returns the bytes of an answer.
 pub fn text_of(alloc: Global, want: &Want) -> Result<Vec<u8>, Fail> {
     let file = f1(alloc)?;
     let mut text = Vec::from_slice(alloc, want.head)?;
@@ -113,7 +113,7 @@ pub fn text_of(alloc: Global, want: &Want) -> Result<Vec<u8>, Fail> {
     Ok(text)
 }
 
-/// All bytes of the file as a range.
+/// An answer with all bytes of the file as a range.
 const ALL: Want = Want {
     head: b"HTTP/1.1 206 Partial Content\r\nETag: \"1-1\"\r\nAccept-Ranges: bytes\r\nContent-Type: image/tiff\r\nContent-Range: bytes 0-377/378\r\nContent-Length: 378\r\n\r\n",
     status: 206,
@@ -123,28 +123,28 @@ const ALL: Want = Want {
     to: 378,
 };
 
-/// The whole file, without a range.
+/// An answer with the whole file, without a range.
 pub const WHOLE: Want = Want {
     head: b"HTTP/1.1 200 OK\r\nETag: \"1-1\"\r\nAccept-Ranges: bytes\r\nContent-Type: image/tiff\r\nContent-Length: 378\r\n\r\n",
     status: 200,
     ..ALL
 };
 
-/// The first byte.
+/// An answer with the first byte.
 pub const FIRST: Want = Want {
     head: b"HTTP/1.1 206 Partial Content\r\nETag: \"1-1\"\r\nAccept-Ranges: bytes\r\nContent-Type: image/tiff\r\nContent-Range: bytes 0-0/378\r\nContent-Length: 1\r\n\r\n",
     to: 1,
     ..ALL
 };
 
-/// The last byte.
+/// An answer with the last byte.
 pub const LAST: Want = Want {
     head: b"HTTP/1.1 206 Partial Content\r\nETag: \"1-1\"\r\nAccept-Ranges: bytes\r\nContent-Type: image/tiff\r\nContent-Range: bytes 377-377/378\r\nContent-Length: 1\r\n\r\n",
     from: 377,
     ..ALL
 };
 
-/// A range of which the file has nothing.
+/// An answer to a range of which the file has no byte.
 const UNSATISFIED: Want = Want {
     head: b"HTTP/1.1 416 Range Not Satisfiable\r\nContent-Range: bytes */378\r\nContent-Length: 0\r\n\r\n",
     status: 416,
@@ -153,7 +153,7 @@ const UNSATISFIED: Want = Want {
     ..ALL
 };
 
-/// Expects that a GET of `/a` with these field lines behind Host is answered so.
+/// Expects this answer to a GET of `/a` with these field lines after Host.
 fn expect_get(
     rt: &(impl Abort + AllocGlobal),
     server: &Server,
@@ -163,7 +163,7 @@ fn expect_get(
     expect_answer(rt, server, (message.as_str(), want))
 }
 
-/// The same of each row, by a server that has f1.
+/// Expects the same for each row, from a server that has f1.
 fn expect_gets(rt: &(impl Abort + AllocGlobal), rows: &[Row<'_>]) -> Result<(), Fail> {
     let server = server_of_f1(rt.alloc())?;
     for row in rows {
@@ -172,21 +172,21 @@ fn expect_gets(rt: &(impl Abort + AllocGlobal), rows: &[Row<'_>]) -> Result<(), 
     Ok(())
 }
 
-/// Field lines of a GET of f1, and its answer: ranges about its end.
+/// Rows of field lines of a GET of f1, and its answer: ranges about its end.
 #[rattlefmt::skip]
 const ABOUT_THE_END: [Row<'static>; 2] = [
     ("Range: bytes=378-\r\n", UNSATISFIED),
     ("Range: bytes=377-\r\n", LAST),
 ];
 
-/// Ranges of the last bytes.
+/// Rows of ranges of the last bytes.
 #[rattlefmt::skip]
 const SUFFIXES: [Row<'static>; 2] = [
     ("Range: bytes=-0\r\n", UNSATISFIED),
     ("Range: bytes=-1000\r\n", ALL),
 ];
 
-/// Ranges in other letters and in many digits.
+/// Rows of ranges in other letters and in many digits.
 #[rattlefmt::skip]
 const OTHER_FORMS: [Row<'static>; 3] = [
     ("rAnGe:\t BYTES=0-0 \r\n", FIRST),
@@ -194,7 +194,7 @@ const OTHER_FORMS: [Row<'static>; 3] = [
     ("Range: bytes=999999999999999999999999999999-99999999999999999999999999999\r\n", WHOLE),
 ];
 
-/// No range of bytes, and more than one.
+/// Rows without a range of bytes, and with more than one.
 #[rattlefmt::skip]
 const NOT_ONE_RANGE: [Row<'static>; 5] = [
     ("", WHOLE),
@@ -204,7 +204,7 @@ const NOT_ONE_RANGE: [Row<'static>; 5] = [
     ("Range: bytes=0-0\r\nRange: bytes=0-0\r\n", WHOLE),
 ];
 
-/// Ranges on the condition of a tag.
+/// Rows of ranges on the condition of a tag.
 #[rattlefmt::skip]
 const IF_RANGE: [Row<'static>; 5] = [
     ("Range: bytes=0-0\r\nIf-Range: W/\"1-1\"\r\n", WHOLE),
@@ -239,7 +239,7 @@ fn answers_the_range_only_if_the_tag_is_the_same(rt: HostRuntime) -> Result<(), 
     expect_gets(&rt, &IF_RANGE)
 }
 
-/// Another name's file changes no answer, and a new file of the name changes them all.
+/// Expects that the file of another name changes no answer, and that a new file of the name changes them all.
 #[test]
 fn answers_anew_only_where_the_name_is_published_again(rt: HostRuntime) -> Result<(), Fail> {
     let alloc = rt.alloc();

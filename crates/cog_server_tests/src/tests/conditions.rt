@@ -1,4 +1,4 @@
-//! Answers to requests on conditions, with and without a range.
+//! Answers to requests with conditions, with and without a range.
 use super::answers::{FIRST, Row, WHOLE, Want, expect_answer, server_of_f1};
 use super::refusals::{BARE, UNKNOWN, expect_answers};
 use assertion_support::expect_eq;
@@ -23,7 +23,7 @@ const UNMODIFIED_AND_CLOSED: Want = Want {
     ..UNMODIFIED
 };
 
-/// The field If-Match.
+/// Rows of the field If-Match.
 #[rattlefmt::skip]
 const IF_MATCH: [Row<'static>; 8] = [
     ("GET /a HTTP/1.1\r\nHost: h\r\nIf-Match: \"1-2\"\r\n\r\n", FAILED),
@@ -36,7 +36,7 @@ const IF_MATCH: [Row<'static>; 8] = [
     ("GET /a HTTP/1.1\r\nHost: h\r\nIf-Match: \r\nRange: bytes=0-0\r\n\r\n", FAILED),
 ];
 
-/// The field If-None-Match.
+/// Rows of the field If-None-Match.
 #[rattlefmt::skip]
 const IF_NONE_MATCH: [Row<'static>; 11] = [
     ("HEAD /a HTTP/1.1\r\nHost: h\r\nIf-None-Match: W/\"1-1\"\r\n\r\n", UNMODIFIED),
@@ -52,7 +52,7 @@ const IF_NONE_MATCH: [Row<'static>; 11] = [
     ("GET /a HTTP/1.1\r\nHost: h\r\nIf-None-Match:\r\n\r\n", WHOLE),
 ];
 
-/// Both fields: If-Match is decided first.
+/// Rows of both fields: If-Match is decided first.
 #[rattlefmt::skip]
 const BOTH: [Row<'static>; 4] = [
     ("GET /a HTTP/1.1\r\nHost: h\r\nIf-Match: \"1-1\"\r\nIf-None-Match: \"1-1\"\r\n\r\n", UNMODIFIED),
@@ -61,7 +61,7 @@ const BOTH: [Row<'static>; 4] = [
     ("GET /a HTTP/1.1\r\nHost: h\r\nIf-Match: \"1-1\"\r\nIf-None-Match: \"1-2\"\r\n\r\n", WHOLE),
 ];
 
-/// Conditions on a name that no file has.
+/// Rows of conditions on a name that no file has.
 #[rattlefmt::skip]
 const NO_FILE: [Row<'static>; 2] = [
     ("GET /c HTTP/1.1\r\nHost: h\r\nIf-Match: *\r\n\r\n", UNKNOWN),
@@ -90,7 +90,7 @@ fn finds_no_file_whatever_the_condition(rt: HostRuntime) -> Result<(), Fail> {
     expect_answers(&rt, &NO_FILE)
 }
 
-/// A check that finds the file as it was costs 61 bytes.
+/// Expects that a check that finds the file unchanged is answered in 61 bytes.
 #[test]
 fn answers_a_check_of_the_same_revision_in_61_bytes(rt: HostRuntime) -> Result<(), Fail> {
     let server = server_of_f1(rt.alloc())?;

@@ -1,4 +1,4 @@
-//! Readers and writers that fail: what was written by then, and which failure is told.
+//! Readers and writers that fail: what was written by then, and which failure is reported.
 use super::answers::{FIRST, publish, server_of_f1, text_of};
 use super::streams::{ASKS_FIRST, two_messages};
 use assertion_support::expect_eq;
@@ -10,7 +10,7 @@ use std::alloc::Global;
 use std::process::Abort;
 use std::test::Fail;
 
-/// The head of 65,536 bytes that are published second.
+/// The head of the answer with the 65,536 bytes that are published second.
 const LONG_HEAD: &[u8] =
     b"HTTP/1.1 200 OK\r\nETag: \"1-2\"\r\nAccept-Ranges: bytes\r\nContent-Type: image/tiff\r\nContent-Length: 65536\r\n\r\n";
 
@@ -21,13 +21,13 @@ fn numbers_the_failures_of_a_stream(rt: HostRuntime) {
     expect_eq!(rt; ServeError::Memory.number(), 3);
 }
 
-/// What serving a stream tells, and the reader and the writer after it.
+/// The result of serving a stream, and the reader and the writer after it.
 type Run = (Result<Served, ServeError>, ScriptedInlet, ScriptedOutlet);
 
-/// What serving a stream tells, and whether the reader and the writer have failed.
+/// The result of serving a stream, and whether the reader and the writer have failed.
 type Told = (Result<Served, ServeError>, bool, bool);
 
-/// Serves a stream, with this behind its bytes, to a writer that takes such pieces and what comes after them.
+/// Serves a stream to a writer that takes these pieces, and then what comes after them. `behind` is what follows the bytes of the stream.
 fn serve(
     server: &Server,
     alloc: Global,
@@ -41,7 +41,7 @@ fn serve(
     Ok((result, inlet, outlet))
 }
 
-/// Expects that reading fails behind a stream, once this text is written.
+/// Expects that reading fails after a stream, and that this text was written by then.
 fn expect_read_failure(
     rt: &(impl Abort + AllocGlobal),
     server: &Server,
@@ -55,8 +55,8 @@ fn expect_read_failure(
     Ok(())
 }
 
-/// Expects what serving told, whether the reader and the writer have failed, and the text that was written; where the
-/// writer takes this after the pieces, at this count.
+/// Expects the result of serving, whether the reader and the writer have failed, and the text that was written. A failure prints what the
+/// writer does after the pieces, and their count.
 fn expect_run(
     rt: &(impl Abort + AllocGlobal),
     (served, inlet, outlet): &Run,
@@ -82,7 +82,7 @@ fn answers_the_whole_messages_before_a_failed_read(rt: HostRuntime) -> Result<()
     expect_read_failures(&rt, &server, &stream, &first)
 }
 
-/// The same behind each front of two messages: the first answer is written once its message is whole.
+/// Expects that reading fails after each front of two messages. The first answer is written after its message is whole.
 fn expect_read_failures(
     rt: &(impl Abort + AllocGlobal),
     server: &Server,
@@ -97,8 +97,8 @@ fn expect_read_failures(
     Ok(())
 }
 
-/// Expects that exactly the first bytes of the text are written where the writer takes so many, one at a time, and then
-/// fails, or takes nothing.
+/// Expects that exactly the first `count` bytes of the text are written. The writer takes that many, one at a time, and then fails, or
+/// takes nothing.
 fn expect_write_failure(
     rt: &(impl Abort + AllocGlobal),
     server: &Server,
@@ -139,7 +139,7 @@ fn writes_what_a_failing_writer_takes_of_two_answers(rt: HostRuntime) -> Result<
     Ok(())
 }
 
-/// Expects that a stream of this message is answered by this text where the writer takes such pieces and then fails.
+/// Expects that a stream of this message is answered by this text, where the writer takes these pieces and then fails.
 fn expect_pieces(
     rt: &(impl Abort + AllocGlobal),
     server: &Server,
@@ -155,7 +155,7 @@ fn expect_pieces(
     Ok(())
 }
 
-/// A short answer is one write, and one with a long body two, the first of which has at most 16,384 bytes.
+/// Expects that a short answer is one write, and that one with a long body is two. The first of the two has at most 16,384 bytes.
 #[test]
 fn writes_a_short_answer_at_once_and_a_long_body_in_two(rt: HostRuntime) -> Result<(), Fail> {
     let alloc = rt.alloc();

@@ -8,7 +8,7 @@ use std::test::Fail;
 /// A head with a folded line.
 const FOLDED: &str = "GET /a HTTP/1.1\r\nHost: h\r\n x\r\n\r\n";
 
-/// Heads that break the grammar within a field line.
+/// Rows of heads that break the grammar within a field line.
 #[rattlefmt::skip]
 const BROKEN_LINES: [Row<'static>; 9] = [
     (FOLDED, BAD),
@@ -22,7 +22,7 @@ const BROKEN_LINES: [Row<'static>; 9] = [
     ("GET /a HTTP/1.1\r\nHost: h\r\nX\0: x\r\n\r\n", BAD),
 ];
 
-/// Heads with lines that end with LF alone: the answers of the same heads with CR LF.
+/// Rows of heads with lines that end with LF alone. The answers are those of the same heads with CR LF.
 #[rattlefmt::skip]
 const LINES_OF_LF: [Row<'static>; 4] = [
     ("GET /a HTTP/1.1\nHost: h\n\n", WHOLE),
@@ -41,7 +41,7 @@ fn takes_lf_alone_as_the_end_of_a_line(rt: HostRuntime) -> Result<(), Fail> {
     expect_answers(&rt, &LINES_OF_LF)
 }
 
-/// A good head behind a bad one has no answer, however the two are cut.
+/// Expects no answer to a good head after a bad one, wherever the two are cut.
 #[test]
 fn closes_after_a_bad_head_whatever_follows(rt: HostRuntime) -> Result<(), Fail> {
     let server = server_of_f1(rt.alloc())?;

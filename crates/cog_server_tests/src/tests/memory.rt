@@ -1,5 +1,5 @@
-//! Where memory is refused, that is what is told; nothing has changed, and the same call succeeds later. Each test passes with
-//! ample memory, and wherever one allocation is refused.
+//! Where memory is refused, the failure reports that. Nothing has changed, and the same call succeeds later. Each test passes with ample
+//! memory, and wherever one allocation is refused.
 use assertion_support::expect_eq;
 use cog_server::{Inlet, Outlet, PublishError, ServeError, Served, Server, Stream};
 use http_range::{Memory, publication_tag};
@@ -13,7 +13,7 @@ const TEXT: &[u8] =
     b"HTTP/1.1 206 Partial Content\r\nETag: \"1-1\"\r\nAccept-Ranges: bytes\r\nContent-Type: image/tiff\r\n\
     Content-Range: bytes 1-2/4\r\nContent-Length: 2\r\n\r\nIL";
 
-/// The four bytes of a file, again where memory was refused.
+/// Returns the four bytes of a file. Makes them again where memory was refused.
 fn file_again(alloc: Global) -> Result<Vec<u8>, Fail> {
     match Vec::from_slice(alloc, b"FILE") {
         Err(_) => Ok(Vec::from_slice(alloc, b"FILE")?),
@@ -21,7 +21,7 @@ fn file_again(alloc: Global) -> Result<Vec<u8>, Fail> {
     }
 }
 
-/// Publishes the file, a second time where memory was refused.
+/// Publishes the file. Publishes it a second time where memory was refused.
 fn publish(rt: &(impl Abort + AllocGlobal), server: &mut Server) -> Result<(), Fail> {
     let file = file_again(rt.alloc())?;
     if let Err(refusal) = server.publish(b"a", file) {
@@ -31,7 +31,7 @@ fn publish(rt: &(impl Abort + AllocGlobal), server: &mut Server) -> Result<(), F
     Ok(())
 }
 
-/// Publishes the file after a refusal for want of memory, as the publication of this number.
+/// Publishes the file after memory was refused, as publication number `number`.
 fn publish_after(
     rt: &(impl Abort + AllocGlobal),
     server: &mut Server,
@@ -45,7 +45,7 @@ fn publish_after(
     Ok(())
 }
 
-/// The text of the answer to a message, again where memory was refused.
+/// Returns the text of the answer to a message. Asks again where memory was refused.
 fn answer_again(server: &Server, message: &[u8]) -> Result<Vec<u8>, Memory> {
     match server.answer(message) {
         Err(Memory) => Ok(server.answer(message)?.text),
@@ -65,7 +65,7 @@ fn answers_again_after_refused_memory(rt: HostRuntime) -> Result<(), Fail> {
     Ok(())
 }
 
-/// The answers to requests for two names.
+/// Returns the answers to requests for two names.
 fn answers_of_two(server: &Server) -> Result<(Vec<u8>, Vec<u8>), Memory> {
     Ok((
         answer_again(server, b"GET /a HTTP/1.1\r\nHost: h\r\n\r\n")?,
@@ -73,7 +73,8 @@ fn answers_of_two(server: &Server) -> Result<(Vec<u8>, Vec<u8>), Memory> {
     ))
 }
 
-/// Where a publication under a name that has a file is refused, that file is answered as before; and every other one is.
+/// Expects that a file is answered as before where a publication under its name is refused. The requests for every other name are answered
+/// as before, too.
 #[test]
 fn answers_as_before_a_publication_that_is_refused(rt: HostRuntime) -> Result<(), Fail> {
     let mut server = Server::new(rt.alloc(), 1);
@@ -82,7 +83,7 @@ fn answers_as_before_a_publication_that_is_refused(rt: HostRuntime) -> Result<()
     expect_same_answers(&rt, &mut server, (b"b", 3))
 }
 
-/// Expects the same answers after a publication under this name that is refused, and publishes it again, as the one of this number.
+/// Expects the same answers after a publication under this name is refused. Then publishes it again, as publication number `number`.
 fn expect_same_answers(
     rt: &(impl Abort + AllocGlobal),
     server: &mut Server,
@@ -108,7 +109,7 @@ fn expect_answers_of_two(
     Ok(())
 }
 
-/// Serves one request, a second time where memory was refused: by then nothing is written.
+/// Expects that one request is served a second time where memory was refused. By then nothing is written.
 #[test]
 fn serves_again_after_refused_memory(rt: HostRuntime) -> Result<(), Fail> {
     let mut server = Server::new(rt.alloc(), 1);
@@ -126,7 +127,7 @@ fn serves_again_after_refused_memory(rt: HostRuntime) -> Result<(), Fail> {
     Ok(())
 }
 
-/// Serves one request into a room, again where memory was refused: then neither end has failed.
+/// Serves one request into a room. Serves it again where memory was refused: then neither end has failed.
 fn serve_again(
     rt: &(impl Abort + AllocGlobal),
     server: &Server,
@@ -150,7 +151,7 @@ fn serve_again(
 const TWICE: &[u8] = b"GET /a HTTP/1.1\r\nHost: h\r\nRange: bytes=1-2\r\n\r\n\
     GET /a HTTP/1.1\r\nHost: h\r\nRange: bytes=1-2\r\n\r\n";
 
-/// Where memory is refused, whole answers to the first messages are written, and nothing of the next.
+/// Expects that whole answers to the first messages are written before memory is refused, and nothing of the next answer.
 #[test]
 fn serves_whole_answers_alone_before_refused_memory(rt: HostRuntime) -> Result<(), Fail> {
     let mut server = Server::new(rt.alloc(), 1);
@@ -171,7 +172,7 @@ fn serves_whole_answers_alone_before_refused_memory(rt: HostRuntime) -> Result<(
     Ok(())
 }
 
-/// Serves the request twice into a room: neither end fails.
+/// Serves the request twice into a room. Expects that neither end fails.
 fn serve_twice(
     rt: &(impl Abort + AllocGlobal),
     server: &Server,
@@ -184,7 +185,7 @@ fn serve_twice(
     result
 }
 
-/// Expects so many answers in a room, and nothing behind them.
+/// Expects `answers` answers in a room, and nothing after them.
 fn expect_written(rt: &(impl Abort + AllocGlobal), room: &[u8], answers: usize) {
     let mut written = room;
     for _ in 0..answers {

@@ -1,4 +1,4 @@
-//! Publications, their refusals, and the files that are there.
+//! Publications, their refusals, and the files that a server has.
 use assertion_support::expect_eq;
 use cog_server::{PublishError, Server};
 use fixtures_support::f1;
@@ -10,7 +10,7 @@ use std::test::Fail;
 /// The most bytes of a file.
 const LARGEST: usize = 67108864;
 
-/// A name, how many bytes 0 are its file, and the number under which their publication is refused.
+/// A row has a name, the number of zero bytes of its file, and the number under which the publication is refused.
 type Refused<'a> = (&'a [u8], usize, u8);
 
 /// Expects that a publication is refused.
@@ -41,7 +41,7 @@ fn expect_published(
     Ok(())
 }
 
-/// The same of so many bytes 0.
+/// Expects the same of a file of `count` zero bytes.
 fn expect_zeros_published(
     rt: &(impl Abort + AllocGlobal),
     server: &mut Server,
@@ -64,7 +64,7 @@ fn expect_length(
     expect_eq!(rt; length, want, "{name:?}");
 }
 
-/// So many bytes 0.
+/// Returns `count` zero bytes.
 fn zeros(alloc: Global, count: usize) -> Result<Vec<u8>, Fail> {
     let mut file = Vec::new(alloc);
     file.resize(count, 0)?;
@@ -86,7 +86,7 @@ fn numbers_the_refusals_of_a_publication(rt: HostRuntime) {
     }
 }
 
-/// Publications by a server without files that are refused.
+/// Rows of publications that a server without files refuses.
 const REFUSED: [Refused<'static>; 4] = [
     (b"~", 0, 1),
     (b"", 1, 1),

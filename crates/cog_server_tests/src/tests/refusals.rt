@@ -5,7 +5,7 @@ use cog_server::{Ended, Served};
 use std::process::Abort;
 use std::test::Fail;
 
-/// An answer without a body and without a tag, that leaves the connection open.
+/// An answer without a body and without a tag. It leaves the connection open.
 pub const BARE: Want = Want {
     head: b"",
     status: 0,
@@ -27,10 +27,10 @@ pub const UNKNOWN: Want = Want { head: b"HTTP/1.1 404 Not Found\r\nContent-Lengt
 #[rattlefmt::skip]
 const UNKNOWN_AND_CLOSED: Want = Want { head: b"HTTP/1.1 404 Not Found\r\nContent-Length: 0\r\nConnection: close\r\n\r\n", close: true, ..UNKNOWN };
 
-/// The head of the whole file, and no body.
+/// The head of the answer with the whole file, and no body.
 const HEAD_OF_THE_FILE: Want = Want { to: 0, ..WHOLE };
 
-/// Messages that are no request of HTTP/1.1 for a file.
+/// Rows of messages that are no request of HTTP/1.1 for a file.
 #[rattlefmt::skip]
 const NO_REQUESTS: [Row<'static>; 7] = [
     ("GET /a\r\n\r\n", BAD),
@@ -42,14 +42,14 @@ const NO_REQUESTS: [Row<'static>; 7] = [
     ("GET http://h/a HTTP/1.1\r\nHost: h\r\n\r\n", BAD),
 ];
 
-/// Requests by another method.
+/// Rows of requests by another method.
 #[rattlefmt::skip]
 const OTHER_METHODS: [Row<'static>; 2] = [
     ("DELETE /a HTTP/1.1\r\nHost: h\r\n\r\n", OTHER_METHOD),
     ("get http://h/a HTTP/1.1\r\nHost: h\r\n\r\n", OTHER_METHOD),
 ];
 
-/// Requests for names that no file has.
+/// Rows of requests for names that no file has.
 #[rattlefmt::skip]
 const OTHER_NAMES: [Row<'static>; 4] = [
     ("GET /b HTTP/1.1\r\nHost: h\r\n\r\n", UNKNOWN),
@@ -58,13 +58,13 @@ const OTHER_NAMES: [Row<'static>; 4] = [
     ("GET /b HTTP/1.1\r\nHost: h\r\nConnection: x, Close\r\n\r\n", UNKNOWN_AND_CLOSED),
 ];
 
-/// Requests for the head alone.
+/// Rows of requests for the head alone.
 #[rattlefmt::skip]
 const HEADS: [Row<'static>; 1] = [
     ("HEAD /a HTTP/1.1\r\nHost: h\r\nRange: bytes=0-0\r\n\r\n", HEAD_OF_THE_FILE),
 ];
 
-/// Expects these answers of a server that has f1.
+/// Expects these answers from a server that has f1.
 pub fn expect_answers(rt: &(impl Abort + AllocGlobal), rows: &[Row<'_>]) -> Result<(), Fail> {
     let f1_alone = server_of_f1(rt.alloc())?;
     for row in rows {
@@ -93,7 +93,7 @@ fn answers_head_without_a_body(rt: HostRuntime) -> Result<(), Fail> {
     expect_answers(&rt, &HEADS)
 }
 
-/// Empty lines are no message of a stream, and no head.
+/// Expects that empty lines are no message of a stream, and no head.
 #[test]
 fn answers_nothing_to_empty_lines_of_a_stream(rt: HostRuntime) -> Result<(), Fail> {
     let server = server_of_f1(rt.alloc())?;

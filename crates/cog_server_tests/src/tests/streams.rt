@@ -8,7 +8,7 @@ use std::alloc::Global;
 use std::process::Abort;
 use std::test::Fail;
 
-/// A request for the first byte of `a`, and one for the last.
+/// Requests for the first byte of `a`, and for the last.
 pub const ASKS_FIRST: &[u8] = b"GET /a HTTP/1.1\r\nHost: h\r\nRange: bytes=0-0\r\n\r\n";
 
 pub const ASKS_LAST: &[u8] = b"GET /a HTTP/1.1\r\nHost: h\r\nRange: bytes=377-\r\n\r\n";
@@ -47,7 +47,7 @@ fn served(answers: usize, ended: Ended) -> Served {
     Served { answers, ended }
 }
 
-/// Two requests, and the answers to both.
+/// Returns two requests, and the answers to both.
 pub fn two_messages(alloc: Global) -> Result<(Vec<u8>, Vec<u8>), Fail> {
     let mut stream = Vec::from_slice(alloc, ASKS_FIRST)?;
     stream.extend_from_slice(ASKS_LAST)?;
@@ -56,7 +56,7 @@ pub fn two_messages(alloc: Global) -> Result<(Vec<u8>, Vec<u8>), Fail> {
     Ok((stream, text))
 }
 
-/// So many times the same bytes.
+/// Returns the same bytes `count` times.
 fn repeated(alloc: Global, bytes: &[u8], count: usize) -> Result<Vec<u8>, Fail> {
     let mut all = Vec::new(alloc);
     for _ in 0..count {
@@ -77,7 +77,7 @@ fn answers_the_same_however_a_stream_is_cut(rt: HostRuntime) -> Result<(), Fail>
     expect_served(&rt, &server, &stream, &ones, &text, both)
 }
 
-/// A stream that ends in its second message has one answer, and one that ends in its first none.
+/// Expects one answer where a stream ends in its second message, and none where it ends in its first.
 #[test]
 fn answers_only_the_messages_that_came_whole(rt: HostRuntime) -> Result<(), Fail> {
     let server = server_of_f1(rt.alloc())?;
@@ -102,7 +102,7 @@ fn refuses_8192_bytes_without_an_end(rt: HostRuntime) -> Result<(), Fail> {
     expect_refused_when_full(&rt, &server, &full, &ones)
 }
 
-/// Expects that a stream without an end is refused, and that one without its first byte has no answer.
+/// Expects that a stream without an end is refused, and that the same stream without its first byte has no answer.
 fn expect_refused_when_full(
     rt: &(impl Abort + AllocGlobal),
     server: &Server,
@@ -114,7 +114,7 @@ fn expect_refused_when_full(
     expect_served(rt, server, part, cuts, b"", served(0, Ended::EndOfInput))
 }
 
-/// A hundred messages are answered, and no more; the hundredth may close.
+/// Expects that a hundred messages are answered, and no more. The hundredth may close.
 #[test]
 fn ends_after_a_hundred_answers(rt: HostRuntime) -> Result<(), Fail> {
     let server = server_of_f1(rt.alloc())?;
@@ -124,7 +124,7 @@ fn ends_after_a_hundred_answers(rt: HostRuntime) -> Result<(), Fail> {
     expect_closed_by_the_hundredth(&rt, &server, &first, &closing)
 }
 
-/// Expects a hundred times the first answer to a hundred and one messages.
+/// Expects the first answer a hundred times for a hundred and one messages.
 fn expect_limit(
     rt: &(impl Abort + AllocGlobal),
     server: &Server,
@@ -150,7 +150,7 @@ fn expect_closed_by_the_hundredth(
     expect_served(rt, server, &stream, &[], &text, closed)
 }
 
-/// A hundred and one requests, the hundredth of which closes.
+/// Returns a hundred and one requests, the hundredth of which closes.
 fn closing_stream(alloc: Global) -> Result<Vec<u8>, Fail> {
     let mut stream = repeated(alloc, ASKS_FIRST, 99)?;
     stream.extend_from_slice(
@@ -160,7 +160,7 @@ fn closing_stream(alloc: Global) -> Result<Vec<u8>, Fail> {
     Ok(stream)
 }
 
-/// Readers and writers of the standard library: the same text.
+/// Expects the same text with readers and writers of the standard library.
 #[test]
 fn serves_readers_and_writers_of_the_standard_library(rt: HostRuntime) -> Result<(), Fail> {
     let server = server_of_f1(rt.alloc())?;

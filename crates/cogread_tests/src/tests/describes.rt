@@ -1,4 +1,4 @@
-//! `cogread describe`: what it tells of files, in words and in JSON. The places are those that gdalinfo 3.6.2 tells of the same bytes.
+//! What `cogread describe` prints of files, in words and in JSON. The places are those that gdalinfo 3.6.2 prints for the same bytes.
 use super::reads::told_of;
 use fixtures_support::Values::{At, Long, Short};
 use fixtures_support::{
@@ -11,7 +11,7 @@ use std::test::Fail;
 use text_description::Form;
 use transports::server_of_one;
 
-/// The fields of 16 by 16 samples of 8 bits in a tile, whose scale and tiepoint stand at 160 and 184, and the keys at 232.
+/// The fields of 16 by 16 samples of 8 bits in a tile. The scale stands at 160, the tiepoint at 184, and the keys at 232.
 #[rattlefmt::skip]
 const FIELDS: [Field; 12] = [
     Field { tag: 256, values: Short(16) },
@@ -28,13 +28,13 @@ const FIELDS: [Field; 12] = [
     Field { tag: 34735, values: At { kind: FieldType::Short, count: 16, first: 232 } },
 ];
 
-/// Pixels of 60 m, the first of which lies at 440720 m to the east and 3751320 m to the north: the example of the GeoTIFF standard.
+/// Pixels of 60 m, the first of which lies at 440720 m to the east and 3751320 m to the north. It is the example of the GeoTIFF standard.
 const PLACE: [f64; 9] = [60.0, 60.0, 0.0, 0.0, 0.0, 0.0, 440720.0, 3751320.0, 0.0];
 
-/// A projected system, NAD27 / UTM zone 11N, in which pixels are points.
+/// The keys of a projected system, NAD27 / UTM zone 11N, in which pixels are points.
 const KEYS: [u16; 16] = [1, 1, 0, 3, 1024, 0, 1, 1, 1025, 0, 1, 2, 3072, 0, 1, 26711];
 
-/// A file whose pixels are points.
+/// Returns a file whose pixels are points.
 pub fn points(alloc: Global) -> Result<Vec<u8>, AllocError> {
     let mut file = Vec::new(alloc);
     push_header(&mut file, Order::Little, 8)?;
@@ -50,7 +50,7 @@ pub fn points(alloc: Global) -> Result<Vec<u8>, AllocError> {
     Ok(file)
 }
 
-/// The fields of 16 by 16 samples of 8 bits in a tile that stands at 152, with GDAL_NODATA: the text 0.
+/// The fields of 16 by 16 samples of 8 bits in a tile that stands at 152. GDAL_NODATA is the text 0.
 #[rattlefmt::skip]
 const FIELDS_WITH_NO_DATA: [Field; 10] = [
     Field { tag: 256, values: Short(16) },
@@ -71,7 +71,7 @@ const FIELDS_OF_A_MASK: [Field; 1] = [Field {
     values: Long(4),
 }];
 
-/// A file with a value for no data, and a mask, whose directory stands at 134.
+/// Returns a file with a value for no data, and with a mask whose directory stands at 134.
 fn masked(alloc: Global) -> Result<Vec<u8>, AllocError> {
     let mut file = Vec::new(alloc);
     push_header(&mut file, Order::Little, 8)?;
@@ -231,7 +231,7 @@ fn tells_what_a_file_is(rt: HostRuntime) -> Result<(), Fail> {
     Ok(())
 }
 
-/// A key of a text, whose second letter is no printable one: key 1026 of f3, at 392.
+/// Expects that a control character in a text isn't printed as it is. It is the second letter of key 1026 of f3, at byte 393.
 #[test]
 fn tells_no_command_to_a_terminal(rt: HostRuntime) -> Result<(), Fail> {
     let mut file = f3(rt.alloc())?;
@@ -247,7 +247,7 @@ fn tells_no_command_to_a_terminal(rt: HostRuntime) -> Result<(), Fail> {
     Ok(())
 }
 
-/// A compression that isn't taken, 5, at byte 54 of f1.
+/// Expects the fault of a compression that isn't accepted: 5, at byte 54 of f1.
 #[test]
 fn tells_the_fault_of_a_file(rt: HostRuntime) -> Result<(), Fail> {
     let mut file = f1(rt.alloc())?;

@@ -1,4 +1,4 @@
-//! `cogread` over a server in memory: what it prints, and the lines of its faults.
+//! What `cogread` prints over a server in memory, and the lines of its faults.
 ghost use Rattle.std.specs.Prelude.{◌+◌, ◌^◌, ◌<◌};
 
 use assertion_support::expect_eq;
@@ -19,7 +19,7 @@ use transports::{InMemory, InPieces, Replaced, server_of_one};
 /// The sizes of the pieces in which answers come.
 const SIZES: [usize; 3] = [1, 170, 4096];
 
-/// What is read of a source, in so many exchanges at most, over a runtime, and whether it is written. A world file is written after the
+/// Reads what is asked of a source, in at most `requests` exchanges, and writes it with the runtime. A world file is written after the
 /// picture.
 fn read<R: AllocGlobal + Clock, P: Pieces + Drop>(
     capture: &Capture<'_, R>,
@@ -53,7 +53,7 @@ fn read<R: AllocGlobal + Clock, P: Pieces + Drop>(
     }
 }
 
-/// What is printed of what is asked of a source in so many exchanges at most, told and ended with.
+/// Returns what is printed, and the status, for what is asked of a source in at most `requests` exchanges.
 fn told_over<R: AllocGlobal + Clock, P: Pieces + Drop>(
     capture: Capture<'_, R>,
     pieces: P,
@@ -70,7 +70,7 @@ fn told_over<R: AllocGlobal + Clock, P: Pieces + Drop>(
     Told { out, err, status }
 }
 
-/// What is printed of what is asked of a server in memory.
+/// Returns what is printed, and the status, for what is asked of a server in memory.
 pub fn told_of<R: AllocGlobal + Clock>(
     capture: Capture<'_, R>,
     server: &Server,
@@ -81,13 +81,13 @@ pub fn told_of<R: AllocGlobal + Clock>(
     told_over(capture, pieces, 4, asked)
 }
 
-/// Two rows of three columns, from row 1 on.
+/// Makes a query of two rows of three columns, from row 1 on.
 fn window(x: u32, pick: Pick) -> Asked {
     let (y, w, h) = (1, 3, 2);
     Asked::Query(Query::Window { x, y, w, h, pick })
 }
 
-/// The whole of a level.
+/// Asks for the whole of a level.
 fn whole(level: u32) -> Asked {
     Asked::Part(Part {
         area: Area::Whole,
@@ -115,7 +115,7 @@ fn prints_what_is_read_or_tells_the_fault(rt: HostRuntime) -> Result<(), Fail> {
     Ok(())
 }
 
-/// The sample of f1 at x, y is 16y + x.
+/// Expects the whole of a level. The sample of f1 at x, y is 16y + x.
 #[test]
 fn reads_the_whole_of_a_level(rt: HostRuntime) -> Result<(), Fail> {
     let server = server_of_one(rt.alloc(), 1, b"a", f1(rt.alloc())?)?;
@@ -130,7 +130,7 @@ fn reads_the_whole_of_a_level(rt: HostRuntime) -> Result<(), Fail> {
     Ok(())
 }
 
-/// The picture of f2b, whose samples in the tile of 16 by 16 with the number t, row by row of tiles, are 255 - t.
+/// Returns the picture of f2b. Its samples in the tile of 16 by 16 with the number t, row by row of tiles, are 255 - t.
 fn picture_of_f2b(alloc: Global) -> Result<Vec<u8>, AllocError> {
     let mut picture = Vec::from_slice(alloc, b"P5\n256 256\n255\n")?;
     for row in 0..=u8::MAX {
@@ -141,7 +141,7 @@ fn picture_of_f2b(alloc: Global) -> Result<Vec<u8>, AllocError> {
     Ok(picture)
 }
 
-/// What is printed of the whole of f2, where f2b is in its place behind the first exchange.
+/// Returns what is printed for the whole of f2, where f2b replaces it after the first exchange.
 fn told_of_replaced(rt: &HostRuntime, requests: u32) -> Result<Told, Fail> {
     let old = server_of_one(rt.alloc(), 1, b"a", f2(rt.alloc())?)?;
     let new = server_of_one(rt.alloc(), 2, b"a", f2b(rt.alloc())?)?;
@@ -150,8 +150,8 @@ fn told_of_replaced(rt: &HostRuntime, requests: u32) -> Result<Told, Fail> {
     Ok(told_over(Capture::new(rt), pieces, requests, whole(0)))
 }
 
-/// Of the old file an answer tells the sides of its level, and then the new one is there: two answers bring all of it. Its sides are
-/// read before the whole of it, and neither takes an exchange more.
+/// Expects the whole of the file that replaces another. An answer has the sides of the level of the old file, and then the new one is
+/// there: two answers bring all of it. Its sides are read before the whole of it, and neither takes another exchange.
 #[test]
 fn reads_the_whole_of_a_file_that_is_replaced(rt: HostRuntime) -> Result<(), Fail> {
     let want = picture_of_f2b(rt.alloc())?;
@@ -179,7 +179,7 @@ fn tells_that_standard_output_is_closed(rt: HostRuntime) -> Result<(), Fail> {
     Ok(())
 }
 
-/// The compression of f1 stands at byte 54; 5 is one that isn't taken.
+/// Expects a fault with its tag. The compression of f1 stands at byte 54, and 5 is one that isn't accepted.
 #[test]
 fn tells_a_fault_with_its_tag(rt: HostRuntime) -> Result<(), Fail> {
     let mut file = f1(rt.alloc())?;

@@ -9,8 +9,8 @@ use std::test::Fail;
 use text_description::Bounds;
 use transports::server_of_one;
 
-/// The file whose pixels are points, with the sample 16y + x at x, y. Its first pixel begins at 440690 m to the east and 3751350 m to the
-/// north, and pixels have 60 m.
+/// Returns the file whose pixels are points, with the sample 16y + x at x, y. Its first pixel begins at 440690 m to the east and 3751350 m
+/// to the north, and pixels have 60 m.
 fn rising(alloc: Global) -> Result<Vec<u8>, Fail> {
     let mut file = points(alloc)?;
     file.truncate(264);
@@ -20,7 +20,7 @@ fn rising(alloc: Global) -> Result<Vec<u8>, Fail> {
     Ok(file)
 }
 
-/// From within column 2 and row 1 to within column 4 and row 2.
+/// A rectangle from within column 2 and row 1 to within column 4 and row 2.
 const INNER: Bounds = Bounds {
     west: 440811.0,
     south: 3751171.0,
@@ -28,14 +28,14 @@ const INNER: Bounds = Bounds {
     north: 3751289.0,
 };
 
-/// Beyond the east side, which lies at 441650 m.
+/// A rectangle beyond the east side, which lies at 441650 m.
 const BEYOND: Bounds = Bounds {
     west: 441650.0,
     east: 441700.0,
     ..INNER
 };
 
-/// A rectangle of level 0, with its world file or without.
+/// Asks for a rectangle of level `level`, with its world file or without.
 fn rectangle(bounds: Bounds, level: u32, has_world: bool) -> Asked {
     let area = Area::Bounds(bounds);
     Asked::Part(Part {
@@ -63,7 +63,7 @@ const PICTURE: &str = "P5\n3 2\n255\n\x12\x13\x14\x22\x23\x24";
 const PLACED_PICTURE: &str =
     "P5\n3 2\n255\n\x12\x13\x14\x22\x23\x2460.0\n0.0\n0.0\n-60.0\n440840.0\n3751260.0\n";
 
-/// What is printed of what is asked of a file.
+/// Returns what is printed for what is asked of a file.
 fn told_of_file(rt: &HostRuntime, file: Vec<u8>, asked: Asked) -> Result<Told, Fail> {
     let server = server_of_one(rt.alloc(), 1, b"a", file)?;
     Ok(told_of(Capture::new(rt), &server, asked))
@@ -86,7 +86,7 @@ fn reads_what_a_rectangle_meets(rt: HostRuntime) -> Result<(), Fail> {
     Ok(())
 }
 
-/// The file f1 doesn't say where its pixels lie.
+/// Expects the line that the file f1 doesn't say where its pixels lie.
 #[test]
 fn tells_that_a_file_has_no_place(rt: HostRuntime) -> Result<(), Fail> {
     let no_window =

@@ -1,5 +1,5 @@
-//! `cogread --verbose`: each exchange is told, and why there is no window. The time of an exchange is any number. `cogread --progress`:
-//! how far the exchanges have come.
+//! `cogread --verbose` prints a line for each exchange, and why there is no window. The time of an exchange is any number.
+//! `cogread --progress` prints how far the exchanges have come.
 ghost use Rattle.std.specs.Prelude.{◌+◌, ◌^◌, ◌<◌};
 
 use assertion_support::expect_eq;
@@ -17,7 +17,7 @@ use std::test::Fail;
 use tiff_dir::Pick;
 use transports::{Fate, InMemory, InPieces, Scripted, server_of_one};
 
-/// A text in which the time of each exchange is told as `T ms`.
+/// Returns a text in which the time of each exchange is written `T ms`.
 fn without_times(alloc: Global, text: &str) -> Result<String, AllocError> {
     let mut told = String::new(alloc);
     for line in text.split_inclusive('\n') {
@@ -37,7 +37,7 @@ fn without_times(alloc: Global, text: &str) -> Result<String, AllocError> {
 /// The sizes of the pieces in which answers come.
 const SIZES: [usize; 3] = [1, 170, 4096];
 
-/// Asks a query of a source, in three exchanges at most, of which this is told.
+/// Asks a query of a source, in at most three exchanges, and prints lines about it.
 fn ask_and_tell<R: Print + Eprint + AllocGlobal + Clock, P: Pieces + Drop>(
     rt: &R,
     pieces: P,
@@ -65,14 +65,14 @@ fn ask_and_tell<R: Print + Eprint + AllocGlobal + Clock, P: Pieces + Drop>(
     Ok(())
 }
 
-/// What was told on standard error.
+/// Returns what was printed on standard error.
 fn told_in<R: AllocGlobal>(capture: Capture<'_, R>) -> Result<String, AllocError> {
     let alloc = capture.alloc();
     let (_, err) = capture.into_texts();
     without_times(alloc, str::from_utf8(&err).unwrap_or("?"))
 }
 
-/// What is told of a query of a server in memory, whose answers have these fates.
+/// Returns what is printed about a query of a server in memory, whose answers have these fates.
 fn told_of<R: AllocGlobal + Clock>(
     capture: Capture<'_, R>,
     server: &Server,
@@ -86,14 +86,14 @@ fn told_of<R: AllocGlobal + Clock>(
     Ok(told_in(capture)?)
 }
 
-/// A window of one pixel, in this column.
+/// Makes a query of the window of one pixel, in column `x`.
 fn pixel(x: u32) -> Query {
     let (y, w, h, pick) = (0, 1, 1, Pick::Level(0));
     Query::Window { x, y, w, h, pick }
 }
 
-/// What becomes of the answers, the column of the pixel that is asked for, and what is told. An answer has a head of 165 bytes and 378
-/// of the file.
+/// A row has the fates of the answers, the column of the pixel that is asked for, and what is printed. An answer has a head of 165 bytes,
+/// and 378 bytes of the file.
 #[rattlefmt::skip]
 const TOLD: [(&[Fate], u32, &str); 4] = [
     (&[Fate::Whole], 1, "cogread: GET /a bytes=0-65535: 206, 543 bytes, T ms: 378 bytes of the file, tag \"1-1\"\n"),
@@ -151,8 +151,8 @@ impl Transport for Says {
     }
 }
 
-/// What a server says, and what is told of each exchange. A status is three digits (RFC 9112, section 4): no other byte is told as one. Of a
-/// tag, control characters aren't told as they came.
+/// A row has what a server says, and what is printed about each exchange. A status is three digits (RFC 9112, section 4): no other byte is
+/// printed as one. Control characters of a tag aren't printed as they came.
 const SAID: [(&[u8], &str); 6] = [
     (
         b"HTTP/1.1 206 Partial Content\r\nETag: \"\xc2\x9b1\"\r\nContent-Range: bytes 0-2/9\r\nContent-Length: 3\r\n\r\nabc",
@@ -180,7 +180,7 @@ const SAID: [(&[u8], &str); 6] = [
     ),
 ];
 
-/// Expects that three exchanges are told like this, and that no report came.
+/// Expects these lines about three exchanges, and that no report came.
 fn expect_said<R: Abort + AllocGlobal + Clock>(
     rt: &R,
     text: &'static [u8],
@@ -213,7 +213,7 @@ fn tells_what_a_terminal_may_see(rt: HostRuntime) -> Result<(), Fail> {
     Ok(())
 }
 
-/// What becomes of the answers, and what is drawn of them.
+/// A row has the fates of the answers, the column of the pixel, and what is drawn.
 #[rattlefmt::skip]
 const DRAWN: [(&[Fate], u32, &str); 3] = [
     (
@@ -244,7 +244,7 @@ fn draws_how_far_the_exchanges_have_come(rt: HostRuntime) -> Result<(), Fail> {
     Ok(())
 }
 
-/// Where nobody listens, and what is no server.
+/// A row has words with an address where nobody listens, or with one that is no server's, what is printed, and the status.
 #[rattlefmt::skip]
 const NOWHERE: [(&[&str], &str, u8); 3] = [
     (

@@ -18,7 +18,7 @@ const WINDOW: Query = Query::Window {
     pick: Pick::Level(0),
 };
 
-/// The samples of that window, row by row. Nothing where the file is faulty, or doesn't have this window.
+/// Returns the samples of that window, row by row. Returns `None` where the file is faulty, or doesn't have this window.
 fn samples_of_file(alloc: Global, file: &[u8]) -> Result<Option<Vec<u8>>, Memory> {
     match read_file(alloc, file, WINDOW)? {
         Outcome::Window(window) => Ok(Some(window.pixels)),
@@ -26,7 +26,7 @@ fn samples_of_file(alloc: Global, file: &[u8]) -> Result<Option<Vec<u8>>, Memory
     }
 }
 
-/// Asks a server in the same process. It speaks for no file: what it brings isn't known to a contract.
+/// Asks a server in the same process. It speaks for no file: contracts don't know what it brings.
 #[derive(Drop)]
 struct Direct<'s> {
     server: &'s Server,
@@ -62,7 +62,7 @@ fn report_to(alloc: Global, client: &mut Client, server: &Server) -> Result<Opti
     }
 }
 
-/// Reads it by a client that keeps 256 blocks of 16,384 bytes for the next query.
+/// Reads the window by a client that keeps 256 blocks of 16,384 bytes for the next query.
 fn report_of_server(alloc: Global, server: &Server) -> Result<Option<Report>, Fail> {
     let mut client = Client::new(alloc, b"localhost", b"a", 256)?;
     report_to(alloc, &mut client, server)
@@ -79,7 +79,7 @@ fn reads_a_window_of_a_file_in_memory(rt: HostRuntime) -> Result<(), Fail> {
     Ok(())
 }
 
-/// What a report tells of its window, and its tag. None where it has no window.
+/// Returns the numbers of a report's window, and its tag. Returns `None` where it has no window.
 fn told(report: &Report) -> Option<(u32, u32, u16, u16, &[u8])> {
     match &report.outcome {
         Outcome::Window(window) => Some((

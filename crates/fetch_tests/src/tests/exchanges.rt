@@ -1,4 +1,4 @@
-//! What the transports bring.
+//! The answers that the transports bring.
 use assertion_support::expect_eq;
 use cog_client::{Lost, Transport};
 use fixtures_support::{f1, f2};
@@ -21,7 +21,7 @@ const FATES: [Fate; 6] = [
     Fate::Whole,
 ];
 
-/// How many bytes of the text come of each answer: of one more than there are fates.
+/// How many bytes of the text come of each answer. There is one more answer than there are fates.
 const LENGTHS: [Option<usize>; 7] = [
     Some(TEXT.len()),
     None,
@@ -32,7 +32,7 @@ const LENGTHS: [Option<usize>; 7] = [
     None,
 ];
 
-/// Whether so many bytes of the text came, or nothing.
+/// Returns whether `length` bytes of the text came, or nothing.
 fn is_front(came: &Result<Vec<u8>, Lost>, length: Option<usize>) -> bool {
     match (came, length) {
         (Err(Lost), None) => true,
@@ -41,7 +41,7 @@ fn is_front(came: &Result<Vec<u8>, Lost>, length: Option<usize>) -> bool {
     }
 }
 
-/// Expects this of one exchange more, of seven.
+/// Expects this of the next exchange, of seven.
 fn expect_front(
     rt: &impl Abort,
     transport: &mut Scripted<'_, InMemory<'_>>,
@@ -63,7 +63,7 @@ fn loses_and_cuts_answers_by_its_list(rt: HostRuntime) -> Result<(), Fail> {
     Ok(())
 }
 
-/// A server of two files, asked over a transport for one of them: messages, and whether their answers come.
+/// A server of two files is asked over a transport for one of them. A row has a message, and whether its answer comes.
 const MESSAGES: [(&[u8], bool); 4] = [
     (REQUEST, true),
     (b"GET /b HTTP/1.1\r\nHost: h\r\n\r\n", false),
@@ -71,7 +71,7 @@ const MESSAGES: [(&[u8], bool); 4] = [
     (b"\r\n", true),
 ];
 
-/// Expects that the answer to a message comes, or doesn't, by one exchange more, of four.
+/// Expects that the answer to a message comes, or doesn't, in the next exchange, of four.
 fn expect_answer(rt: &impl Abort, transport: &mut InMemory<'_>, message: &[u8], comes: bool) {
     assert!(rt; transport.exchanges() < 4);
     assert_eq!(rt; transport.exchange(message).is_ok(), comes, "{message:?}");

@@ -1,7 +1,9 @@
-//! Every list of up to four of these fates, and of up to three where the answers come in pieces. The heads of the answers have 165 to
-//! 174 bytes, that of f2's first answer 171. So what comes of an answer that is cut after 0, 170 or 171 bytes has no whole block; after
-//! 16,555 bytes the first block of f2 is whole, and the other answers are shorter. An answer that is lost or brings no block changes
-//! nothing of what is needed: the report stands with the first answer that brings blocks, of f2 with the second.
+//! Every list of up to four of these fates, and of up to three where the answers come in pieces. The heads of the answers have 165 to 174
+//! bytes, and that of f2's first answer has 171. So an answer that is cut after 0, 170 or 171 bytes brings no whole block. After 16,555
+//! bytes the first block of f2 is whole, and the other answers are shorter.
+//!
+//! An answer that is lost or brings no block changes nothing of what is needed. The report stands after the first answer that brings
+//! blocks, and that of f2 after the second.
 use super::fetched::{Fetched, fetch_by, fetch_pieces_by};
 use super::{LAST_TILE, window};
 use cog_client::{Query, Report};
@@ -23,7 +25,7 @@ const FATES: [Fate; 6] = [
 /// As many exchanges as the longest list has fates.
 const TRIES: u32 = 4;
 
-/// The first pieces of each answer, in which the head and the first block come in parts.
+/// The sizes of the first pieces of each answer, in which the head and the first block come in parts.
 const SIZES: [usize; 4] = [1, 169, 2, 10_000];
 
 /// What is fetched, how many answers that bring blocks it needs, and the report.
@@ -39,7 +41,7 @@ fn brings_blocks(fate: Fate) -> bool {
     matches!(fate, Fate::Cut(16555) | Fate::Whole)
 }
 
-/// How many fates of the list are used up until so many answers have brought blocks. None where there are fewer.
+/// Returns how many fates of the list are used up until `needed` answers have brought blocks. Returns `None` where there are fewer.
 fn used_up(fates: &[Fate], needed: usize) -> Option<usize> {
     let mut left = needed;
     for (i, fate) in fates.iter().enumerate() {
@@ -64,7 +66,7 @@ fn are_same(found: Option<&Report>, want: Option<&Report>) -> bool {
 }
 
 impl Case<'_> {
-    /// Whether that is fetched which is wanted where so many fates are used up.
+    /// Returns whether the right report was fetched, in the right number of exchanges, where `used` fates are used up.
     fn is_met(&self, fetched: &Fetched, used: Option<usize>) -> bool {
         let exchanges = used.unwrap_or(TRIES as usize) as u64;
         let want = used.map(|_| self.report);
@@ -72,7 +74,7 @@ impl Case<'_> {
     }
 }
 
-/// Expects what is wanted where these fates befall the answers.
+/// Expects the right report, in the right number of exchanges, where the answers have these fates.
 fn expect_list(
     rt: &(impl Abort + AllocGlobal),
     case: &Case<'_>,
@@ -84,7 +86,7 @@ fn expect_list(
     Ok(())
 }
 
-/// Expects it where the answers come in pieces.
+/// Expects the same where the answers come in pieces.
 fn expect_list_in_pieces(
     rt: &(impl Abort + AllocGlobal),
     case: &Case<'_>,
@@ -96,7 +98,7 @@ fn expect_list_in_pieces(
     Ok(())
 }
 
-/// Expects it where the answers come whole, and, of up to three fates, in pieces.
+/// Expects the same where the answers come whole, and, for up to three fates, in pieces.
 fn expect_both(
     rt: &(impl Abort + AllocGlobal),
     case: &Case<'_>,
@@ -109,7 +111,7 @@ fn expect_both(
     expect_list_in_pieces(rt, case, fates)
 }
 
-/// The list of a number: its digits to the base 6, the last one first.
+/// Sets the list of a number: its digits to the base 6, the last one first.
 fn set_fates(fates: &mut [Fate], number: usize) {
     let mut rest = number;
     for fate in fates.iter_mut() {
@@ -118,7 +120,7 @@ fn set_fates(fates: &mut [Fate], number: usize) {
     }
 }
 
-/// The lists of so many numbers.
+/// Expects the same for the lists of the numbers below `count`.
 fn expect_lists(
     rt: &(impl Abort + AllocGlobal),
     case: &Case<'_>,
@@ -132,7 +134,7 @@ fn expect_lists(
     Ok(())
 }
 
-/// All lists of a case.
+/// Expects the same for all lists of a case.
 fn expect_every(rt: &(impl Abort + AllocGlobal), case: &Case<'_>) -> Result<(), Fail> {
     expect_both(rt, case, &[])?;
     expect_lists(rt, case, &mut [Fate::Lost; 1], 6)?;
@@ -141,7 +143,7 @@ fn expect_every(rt: &(impl Abort + AllocGlobal), case: &Case<'_>) -> Result<(), 
     expect_lists(rt, case, &mut [Fate::Lost; 4], 1296)
 }
 
-/// All lists, beside the report of a run in which every answer comes whole.
+/// Expects the same for all lists, beside the report of a run in which every answer comes whole.
 fn expect_all(
     rt: &(impl Abort + AllocGlobal),
     file: Vec<u8>,

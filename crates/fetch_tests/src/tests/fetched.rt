@@ -17,13 +17,14 @@ pub struct Fetched {
 }
 
 impl Fetched {
-    /// How many exchanges there were, and whether the report is of the last tile of f2. None where there is no report.
+    /// Returns how many exchanges there were, and whether the report is of the last tile of f2. The second is `None` where there is no
+    /// report.
     pub fn found(&self) -> (u64, Option<bool>) {
         (self.exchanges, self.report.as_ref().map(is_last_tile))
     }
 }
 
-/// What a client fetches over a transport.
+/// Fetches with a client over a transport. Returns what came of it.
 fn fetch_report<T: Transport>(
     alloc: Global,
     client: &mut Client,
@@ -40,14 +41,14 @@ fn fetch_report<T: Transport>(
     Ok(Fetched { report, exchanges })
 }
 
-/// A client of `a` that is asked this.
+/// Makes a client of `a` that is asked `query`.
 fn asked(alloc: Global, query: Query) -> Result<Client, ClientError> {
     let mut client = Client::new(alloc, b"cog.test", b"a", 66)?;
     client.open(query);
     Ok(client)
 }
 
-/// What a new client fetches where these fates befall the answers.
+/// Fetches with a new client where the answers have these fates. Returns what came of it.
 pub fn fetch_by(
     alloc: Global,
     server: &Server,
@@ -60,7 +61,7 @@ pub fn fetch_by(
     fetch_report(alloc, &mut client, &mut transport, tries)
 }
 
-/// What a client fetches of a source of pieces.
+/// Fetches with a client from a source of pieces. Returns what came of it.
 fn fetch_report_in_pieces<P: Pieces>(
     alloc: Global,
     client: &mut Client,
@@ -77,7 +78,7 @@ fn fetch_report_in_pieces<P: Pieces>(
     Ok(Fetched { report, exchanges })
 }
 
-/// What a new client fetches where these fates befall the answers, each of which comes in pieces of these sizes.
+/// Fetches with a new client where the answers have these fates, and each comes in pieces of these sizes. Returns what came of it.
 pub fn fetch_pieces_by(
     alloc: Global,
     server: &Server,
@@ -92,7 +93,7 @@ pub fn fetch_pieces_by(
     fetch_report_in_pieces(alloc, &mut client, &mut pieces, tries)
 }
 
-/// Whether it is the last tile of f2, whose samples are all 255, under the first tag of the first epoch.
+/// Returns whether a report is of the last tile of f2, whose samples are all 255, under the first tag of the first epoch.
 pub fn is_last_tile(report: &Report) -> bool {
     let Outcome::Window(found) = &report.outcome else {
         return false;

@@ -1,4 +1,4 @@
-//! Over a server in memory the report stands unless an answer was lost, which the transport tells.
+//! Over a server in memory the report stands unless an answer was lost, which the transport reports.
 ghost use Rattle.std.specs.Prelude.{◌≡◌, ◌+◌, ◌<◌, ◌≤◌, ◌^◌, false, IfOk, IsSome, option_copied};
 ghost use Rattle.tiff_dir.specs.declared.query.Query.{Query as AQuery};
 ghost use Rattle.tiff_dir.specs.Query.{cost};
@@ -18,8 +18,9 @@ use std::alloc::Global;
 use std::test::Fail;
 use transports::{InMemory, InPieces, law_servers_in_memory_serve, server_of_one};
 
-/// Fetches from a server in memory. Where that has one of the files that the client may read, and no answer was lost, a report stands
-/// behind an opening by as many exchanges as the query costs, and one more: `reports` of `fetch`, whose premise such a server meets.
+/// Fetches from a server in memory. A report stands after an opening where the server has one of the files that the client may read, and no
+/// answer was lost. It takes at most as many exchanges as the query costs, and one more. This is `reports` of `fetch`, whose premise such a
+/// server meets.
 fn fetch_in_memory<'c>(
     client: &'c mut Client,
     transport: &mut InMemory<'_>,
@@ -34,7 +35,7 @@ fn fetch_in_memory<'c>(
     fetch(client, transport, tries)
 }
 
-/// The same where its answers come in pieces: `reports` of `fetch_pieces`.
+/// Fetches in the same way where the answers come in pieces: `reports` of `fetch_pieces`.
 fn fetch_in_pieces<'c>(
     client: &'c mut Client,
     pieces: &mut InPieces<'_, InMemory<'_>>,
@@ -51,7 +52,7 @@ fn fetch_in_pieces<'c>(
     fetch_pieces(client, pieces, tries)
 }
 
-/// Whether a client of this name has its report of the last tile by three exchanges, and whether an answer was lost.
+/// Returns whether a client of this name has its report of the last tile within three exchanges, and whether an answer was lost.
 fn fetched(
     alloc: Global,
     server: &Server,
@@ -83,7 +84,7 @@ fn reports_of_pieces(rt: HostRuntime) -> Result<(), Fail> {
     Ok(())
 }
 
-/// An answer that has none of the server's files isn't lost: the client is told that there is none, and asks again.
+/// Expects that an answer with none of the server's files isn't lost. The client learns that there is none, and asks again.
 #[test]
 fn loses_nothing_of_an_answer_without_a_file(rt: HostRuntime) -> Result<(), Fail> {
     let server = server_of_one(rt.alloc(), 1, b"b", f1(rt.alloc())?)?;

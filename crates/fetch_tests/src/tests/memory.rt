@@ -11,7 +11,7 @@ use std::process::Abort;
 use std::test::Fail;
 use transports::{InMemory, server_of_one};
 
-/// A client of `a`, made again if no memory is found.
+/// Makes a client of `a`. Makes it again where memory ran out.
 fn make_again(alloc: Global) -> Result<Client, ClientError> {
     match Client::new(alloc, b"cog.test", b"a", 66) {
         Err(ClientError::Memory) => Client::new(alloc, b"cog.test", b"a", 66),
@@ -31,7 +31,7 @@ fn fetch_again(rt: &impl Abort, server: &Server, client: &mut Client) -> Result<
     Ok(())
 }
 
-/// Fetching is refused, or loses one answer of three; the client goes on to the same report.
+/// Expects that fetching is refused, or loses one answer of three. The client goes on to the same report.
 #[test]
 fn goes_on_after_refused_memory(rt: HostRuntime) -> Result<(), Fail> {
     let Ok(file) = f2(rt.alloc()) else {

@@ -1,4 +1,4 @@
-//! A file that is replaced between two exchanges: what is fetched is whole of the one file, under its tag, or of the other.
+//! A file that is replaced between two exchanges. What is fetched is wholly of the one file, under its tag, or of the other.
 use super::LAST_TILE;
 use cog_client::{Client, ClientError, Outcome, Report, Transport};
 use cog_fetch::{fetch, fetch_pieces};
@@ -15,8 +15,11 @@ const NEW: &[u8] = b"\"2-1\"";
 /// A row of the table.
 type Row = (u64, &'static [u8], u8, u64);
 
-/// How many exchanges come to the server of the old file, the tag and the samples of the report, and how many exchanges lead to it. With
-/// one of the old file the next answer is the whole new one, of which the first 65,536 bytes are kept, and a third brings the rest.
+/// A row has how many exchanges come to the server of the old file. Then come the tag and the samples of the report, and how many exchanges
+/// lead to it.
+///
+/// After one exchange with the old file, the next answer is the whole new file. Its first 65,536 bytes are kept, and a third answer brings
+/// the rest.
 const ROWS: [Row; 4] = [
     (0, NEW, 0, 2),
     (1, NEW, 0, 3),
@@ -33,7 +36,7 @@ fn client(alloc: Global) -> Result<Client, ClientError> {
     Ok(client)
 }
 
-/// Whether a report is of the last tile, under a tag, of samples that are all the same.
+/// Returns whether a report is of the last tile, under a tag, with samples that are all the same.
 fn is_of(report: &Report, tag: &[u8], sample: u8) -> bool {
     match &report.outcome {
         Outcome::Window(window) => {
@@ -45,7 +48,7 @@ fn is_of(report: &Report, tag: &[u8], sample: u8) -> bool {
     }
 }
 
-/// Whether a client fetches what a row says.
+/// Returns whether a client fetches what a row says.
 fn fetches(
     client: &mut Client,
     (old, new): (&Server, &Server),
@@ -56,7 +59,7 @@ fn fetches(
     Ok(is_of(report, tag, sample) && transport.exchanges() == exchanges)
 }
 
-/// Whether a new client does.
+/// Returns whether a new client does.
 fn is_met(alloc: Global, servers: (&Server, &Server), row: Row) -> Result<bool, Fail> {
     let mut client = client(alloc)?;
     fetches(&mut client, servers, row)
@@ -72,7 +75,7 @@ fn fetches_the_one_file_or_the_other(rt: HostRuntime) -> Result<(), Fail> {
     Ok(())
 }
 
-/// Whether a client fetches the same report where the answers come in pieces.
+/// Returns whether a client fetches the same report where the answers come in pieces.
 fn fetches_pieces(
     alloc: Global,
     client: &mut Client,
@@ -85,7 +88,7 @@ fn fetches_pieces(
     Ok(is_of(report, tag, sample))
 }
 
-/// Whether a new client does.
+/// Returns whether a new client does.
 fn is_met_in_pieces(alloc: Global, servers: (&Server, &Server), row: Row) -> Result<bool, Fail> {
     let mut client = client(alloc)?;
     fetches_pieces(alloc, &mut client, servers, row)

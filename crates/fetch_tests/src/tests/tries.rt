@@ -10,10 +10,10 @@ use std::process::Abort;
 use std::test::Fail;
 use transports::{Fate, InMemory, server_of_one};
 
-/// The first answer is lost, of the second the first block comes, and the third has the rest.
+/// The first answer is lost, the first block comes of the second, and the third has the rest.
 const LOST_AND_CUT: [Fate; 3] = [Fate::Lost, Fate::Cut(16555), Fate::Whole];
 
-/// The tries, the exchanges, and whether the last tile is reported. None where nothing is.
+/// A row has the most exchanges, the number of exchanges, and whether the last tile is reported. That is `None` where nothing is reported.
 const TRIES: [(u32, u64, Option<bool>); 2] = [(3, 3, Some(true)), (2, 2, None)];
 
 #[test]
@@ -68,7 +68,7 @@ fn gives_nothing_where_every_answer_is_lost(rt: HostRuntime) -> Result<(), Fail>
     Ok(())
 }
 
-/// Whether a report answers this query by a window of these samples.
+/// Returns whether a report answers this query by a window of these samples.
 fn has_samples(report: &Report, query: Query, samples: &[u8]) -> bool {
     match &report.outcome {
         Outcome::Window(found) => report.query == query && found.pixels.as_slice() == samples,
@@ -76,7 +76,7 @@ fn has_samples(report: &Report, query: Query, samples: &[u8]) -> bool {
     }
 }
 
-/// Expects that a query is answered by these samples, twice, where there has been at most one exchange.
+/// Expects that a query is answered by these samples, twice. There was at most one exchange before each.
 fn expect_samples(
     rt: &impl Abort,
     client: &mut Client,
@@ -111,7 +111,7 @@ fn expect_one_exchange(rt: &impl Abort, client: &mut Client, server: &Server) ->
     Ok(())
 }
 
-/// Without a query, and where a report stands, nothing is sent, nor for another query whose blocks are there.
+/// Expects that nothing is sent without a query, where a report stands, and for another query whose blocks are there.
 #[test]
 fn sends_nothing_where_nothing_is_needed(rt: HostRuntime) -> Result<(), Fail> {
     let server = server_of_one(rt.alloc(), 1, b"a", f1(rt.alloc())?)?;

@@ -8,7 +8,7 @@ use std::test::Fail;
 use tiff_dir::{FileFault, Level, Order, Place, Query};
 use tile_plan::{Group, PlanError, Rectangle, groups, rect};
 
-/// A file whose directories are without fault.
+/// A file whose directories have no fault.
 #[derive(Drop)]
 pub struct Image {
     pub file: Vec<u8>,
@@ -16,7 +16,7 @@ pub struct Image {
     pub levels: Vec<Level>,
 }
 
-/// The bytes of a field's values.
+/// Returns the bytes of a field's values.
 fn array<'a>(file: &'a [u8], place: &Place) -> Option<&'a [u8]>
     ensures { IfSome result (λ bytes. length bytes.now ≡ place.now.len) }
 {
@@ -37,7 +37,7 @@ impl Image {
         })
     }
 
-    /// A level and its arrays.
+    /// Returns a level and its arrays.
     fn arrays(&self, n: usize) -> Result<Arrays<'_>, FileFault>
         ensures { IfOk result (λ a. slice_get self.now.levels.items n ≡ Some a.level.now) }
     {
@@ -50,7 +50,7 @@ impl Image {
         })
     }
 
-    /// The groups of a window.
+    /// Returns the groups of a window.
     pub fn plan(&self, alloc: Global, query: Query) -> Result<Vec<Group>, PlanError> {
         let rect = rect(&self.levels, query)?;
         let arrays = self.arrays(rect.level)?;
@@ -77,7 +77,7 @@ struct Arrays<'a> {
 }
 
 impl Arrays<'_> {
-    /// The groups of a rectangle, in a file of so many bytes.
+    /// Returns the groups of a rectangle, in a file of `complete` bytes.
     fn groups(&self, alloc: Global, rect: Rectangle, complete: u64) -> Result<Vec<Group>, PlanError>
         requires { IsTrue (is_inside self.now.level.now rect.x rect.y rect.w rect.h) }
     {

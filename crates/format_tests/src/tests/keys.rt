@@ -9,7 +9,7 @@ use std::alloc::{AllocError, Global};
 use std::test::Fail;
 use tiff_dir::{FileFault, Order};
 
-/// A key's value that is wanted.
+/// An expected value of a key.
 #[derive(Clone, Copy, Debug)]
 enum Value<'a> {
     Short(u16),
@@ -17,10 +17,10 @@ enum Value<'a> {
     Ascii(&'a [u8]),
 }
 
-/// A minor revision and keys, or a fault.
+/// An expected minor revision with keys, or a fault.
 type Want<'a> = Result<(u16, &'a [(u16, Value<'a>)]), FileFault>;
 
-/// The numbers as bytes.
+/// Returns the numbers as bytes.
 fn bytes_of(alloc: Global, order: Order, numbers: &[u16]) -> Result<Vec<u8>, AllocError> {
     let mut bytes = Vec::with_capacity(alloc, 2 * numbers.len())?;
     for number in numbers {
@@ -33,7 +33,7 @@ fn bytes_of(alloc: Global, order: Order, numbers: &[u16]) -> Result<Vec<u8>, All
     Ok(bytes)
 }
 
-/// What is read of a directory of these numbers.
+/// Reads a key directory of these numbers. Returns what is read.
 fn read(
     rt: &HostRuntime,
     order: Order,

@@ -8,7 +8,7 @@ use std::process::Abort;
 use std::test::Fail;
 use tiff_dir::FileFault;
 
-/// Appends a packet that stands for up to `room` bytes, and says for how many.
+/// Appends a packet that stands for up to `room` bytes. Returns for how many it stands.
 fn push_packet(bytes: &mut Vec<u8>, numbers: &mut Numbers, room: usize) -> Result<usize, AllocError>
     requires { 0 < room }
     ensures { IfOk result (λ n. n ≤ room) }
@@ -31,7 +31,7 @@ fn push_packet(bytes: &mut Vec<u8>, numbers: &mut Numbers, room: usize) -> Resul
     Ok(count)
 }
 
-/// Packets of so many rows. One time of three a byte is changed, left out or added.
+/// Returns packets of `rows` rows. One time in three, at random, a byte is changed, left out or added.
 fn packets(
     alloc: Global,
     numbers: &mut Numbers,
@@ -62,7 +62,7 @@ fn packets(
     Ok(bytes)
 }
 
-/// Expects the answer of the plain program to packets in rows of so many bytes, and says whether it is that they fill all rows.
+/// Expects the result of the plain program for packets in rows of `row` bytes. Returns whether it is that they fill all rows.
 fn expect_same(
     rt: &impl Abort,
     (seg, row): (&[u8], usize),
@@ -82,7 +82,7 @@ fn expect_same(
     }
 }
 
-/// Expects it of the next packets, and says whether they fill all rows.
+/// Expects the same for the next packets. Returns whether they fill all rows.
 fn expect_next(rt: &(impl Abort + AllocGlobal), numbers: &mut Numbers) -> Result<bool, Fail> {
     let alloc = rt.alloc();
     let row = 1 + numbers.below(200);

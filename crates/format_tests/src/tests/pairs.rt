@@ -1,9 +1,9 @@
-//! Exchanged pairs.
+//! Pairs of bytes that are exchanged.
 use std::alloc::{AllocError, Global};
 use std::test::Fail;
 use tile_plan::swap_pairs;
 
-/// So many bytes, each with its place.
+/// Returns `len` bytes, each with the value of its position.
 fn places(alloc: Global, len: u8) -> Result<Vec<u8>, AllocError> {
     let mut bytes = Vec::new(alloc);
     for i in 0..len {
@@ -12,7 +12,7 @@ fn places(alloc: Global, len: u8) -> Result<Vec<u8>, AllocError> {
     Ok(bytes)
 }
 
-/// The same, with the bytes of each pair exchanged.
+/// Returns the same bytes, with those of each pair exchanged.
 fn exchanged(alloc: Global, len: u8) -> Result<Vec<u8>, AllocError> {
     let mut bytes = Vec::new(alloc);
     for i in 0..len {

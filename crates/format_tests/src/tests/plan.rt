@@ -9,14 +9,14 @@ use std::test::Fail;
 use tiff_dir::{FileFault, Query};
 use tile_plan::{Group, PlanError};
 
-/// The first and last byte and the number of tiles of a group.
+/// The first byte, the last byte and the number of tiles of a group.
 type Shape = (u64, u64, usize);
 
 fn shape(group: &Group) -> Shape {
     (group.span.first, group.span.last, group.tiles.len())
 }
 
-/// The shapes of the groups of a window.
+/// Returns the shapes of the groups of a window.
 fn shapes(alloc: Global, image: &Image, window: Query) -> Result<Vec<Shape>, Fail> {
     let plan = image
         .plan(alloc, window)
@@ -37,7 +37,7 @@ fn expect_shapes(
     Ok(())
 }
 
-/// The groups of f5's whole window: 16 tiles have as many bytes as a group may have.
+/// Expects two groups for the whole window of f5: 16 tiles have as many bytes as a group may have.
 #[test]
 fn joins_tiles_up_to_the_limit(rt: HostRuntime) -> Result<(), Fail> {
     expect_shapes(
@@ -48,12 +48,12 @@ fn joins_tiles_up_to_the_limit(rt: HostRuntime) -> Result<(), Fail> {
     )
 }
 
-/// The whole window of f3's first level.
+/// Makes a query of the whole window of f3's first level.
 fn whole() -> Query {
     of_level(0, 0, 32, 32, 0)
 }
 
-/// f3, where all tiles have the offset of the first.
+/// Returns f3 with the offset of the first tile for all tiles.
 fn equal_offsets(alloc: Global) -> Result<Vec<u8>, Fail> {
     let mut file = f3(alloc)?;
     for tile in 1..4 {
@@ -63,7 +63,7 @@ fn equal_offsets(alloc: Global) -> Result<Vec<u8>, Fail> {
     Ok(file)
 }
 
-/// f3's tiles follow each other; with equal offsets each is a group.
+/// Expects one group for f3's tiles, which follow each other, and a group for each tile where their offsets are equal.
 #[test]
 fn joins_no_tiles_of_equal_offsets(rt: HostRuntime) -> Result<(), Fail> {
     expect_shapes(&rt, f3(rt.alloc())?, whole(), &[(400, 1423, 4)])?;
@@ -71,17 +71,17 @@ fn joins_no_tiles_of_equal_offsets(rt: HostRuntime) -> Result<(), Fail> {
     expect_shapes(&rt, file, whole(), &[(400, 655, 1); 4])
 }
 
-/// What is wrong with one of f3's tiles: the place of a byte of an array, its value, and what is told.
+/// A row has the place of a byte of an array, its new value, and the fault of f3's tiles that is reported.
 const WRONG: [(usize, u8, FileFault); 4] = [
-    // the byte count of tile 0 is 255, of tile 3 512
+    // The byte count of tile 0 is 255, and that of tile 3 is 512.
     (312, 0xff, FileFault::TileSize),
     (325, 2, FileFault::TileSize),
-    // tile 3 begins past the end
+    // Tile 3 begins past the end.
     (309, 0xff, FileFault::PastEnd),
     (310, 1, FileFault::PastEnd),
 ];
 
-/// Why there is no plan of f3's whole window where these bytes are changed.
+/// Returns why there is no plan of f3's whole window where these bytes are changed.
 fn refusal(alloc: Global, changes: &[(usize, u8)]) -> Result<Option<PlanError>, Fail> {
     let mut file = f3(alloc)?;
     for (place, byte) in changes {
@@ -100,7 +100,7 @@ fn refuses_each_wrong_tile(rt: HostRuntime) -> Result<(), Fail> {
     Ok(())
 }
 
-/// Two tiles of f3 with a fault each: the first one's is told. A tile with both: its size.
+/// Expects the fault of the first tile where two tiles of f3 have one each. Where one tile has both, the fault is its size.
 #[test]
 fn tells_the_fault_of_the_first_tile(rt: HostRuntime) -> Result<(), Fail> {
     for (first, second, fault) in [

@@ -10,10 +10,10 @@ use tile_plan::{Rect, rect};
 /// The numbers of a window, and its pick.
 type Asked = (u32, u32, u32, u32, Pick);
 
-/// The level, left, top, width and height of a rectangle.
+/// The level, the left and the top side, the width and the height of a rectangle.
 type Numbers = (usize, u32, u32, u32, u32);
 
-/// Levels of 32 by 32 and 16 by 16 samples.
+/// Rows of windows of levels of 32 by 32 and of 16 by 16 samples.
 #[rattlefmt::skip]
 const TWO_LEVELS: [(Asked, Result<Numbers, FileFault>); 22] = [
     ((15, 15, 2, 2, Pick::Level(0)), Ok((0, 15, 15, 2, 2))),
@@ -63,7 +63,7 @@ fn finds_rectangles_of_two_levels(rt: HostRuntime) -> Result<(), Fail> {
     Ok(())
 }
 
-/// A level of 4,096 by 4,096 samples.
+/// The fields of a level of 4,096 by 4,096 samples.
 const LARGE: [Field; 9] = [
     Field {
         tag: 256,

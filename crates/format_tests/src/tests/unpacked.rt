@@ -1,11 +1,11 @@
-//! Tiles that are kept unpacked: which is found, which goes, and how many bytes they have together.
+//! Tiles that are kept unpacked: which one is found, which one leaves, and how many bytes they have together.
 use assertion_support::expect_eq;
 use std::alloc::{AllocError, Global};
 use std::test::Fail;
 use tiff_dir::{Codec, Memory};
 use tile_plan::TileCache;
 
-/// So many bytes of a tile, all of this value, made again where memory was refused.
+/// Makes `size` bytes of a tile, all of the value `value`. Makes them again where memory was refused.
 fn plain_again(alloc: Global, value: u8, size: usize) -> Result<Vec<u8>, AllocError> {
     match vec![in alloc; value; size] {
         Err(AllocError) => vec![in alloc; value; size],
@@ -13,7 +13,7 @@ fn plain_again(alloc: Global, value: u8, size: usize) -> Result<Vec<u8>, AllocEr
     }
 }
 
-/// Keeps a tile of so many bytes, all of this value, in rows of four, whose six packed bytes begin at `first`.
+/// Keeps a tile of `size` bytes, all of the value `value`, in rows of four. Its six packed bytes begin at `first`.
 fn keep(
     alloc: Global,
     tiles: &mut TileCache,
@@ -25,7 +25,7 @@ fn keep(
     tiles.keep(Codec::PackBits, first, 6, 4, &mut plain)
 }
 
-/// Whether such a tile of four bytes is kept.
+/// Returns whether such a tile of four bytes is kept.
 fn has(tiles: &TileCache, first: u32) -> bool {
     tiles.find(Codec::PackBits, first, 6, 4, 4).is_some()
 }

@@ -5,7 +5,7 @@ use std::process::Abort;
 use std::test::Fail;
 use tiff_dir::FileFault;
 
-/// Packed bytes, bytes of the output, and whether they stand for so many 00, in rows of 16 bytes.
+/// A row has packed bytes, the number of bytes of the output, and whether they stand for that many 00, in rows of 16 bytes.
 const ZEROS: [(&[u8], usize, bool); 9] = [
     (&[0x80, 0x80, 0xf1, 0x00], 16, true),
     (&[0xf1, 0x00, 0x80], 16, true),
@@ -18,7 +18,7 @@ const ZEROS: [(&[u8], usize, bool); 9] = [
     (&[0xe1, 0x00], 32, false),
 ];
 
-/// Expects that packed bytes stand for so many 00, or don't.
+/// Expects that packed bytes stand for 00 in all of `out`, or don't.
 fn expect_zeros(rt: &impl Abort, seg: &[u8], good: bool, out: &mut [u8]) {
     let answer = unpack(seg, 16, out);
     let want = if good { Ok(()) } else { Err(FileFault::Packet) };
@@ -53,7 +53,7 @@ fn unpacks_the_example_of_the_standard(rt: HostRuntime) {
     expect_eq!(rt; unpack(&EXAMPLE, 12, &mut out), Err(FileFault::Packet));
 }
 
-/// Expects a row of the packets that are made of it.
+/// Expects that the packets that are made of a row give this row.
 fn expect_row(rt: &(impl Abort + AllocGlobal), row: &[u8]) -> Result<(), Fail> {
     assert!(rt; !row.is_empty());
     let seg = pack_row(rt.alloc(), row).ok().ok_or("no memory")?;

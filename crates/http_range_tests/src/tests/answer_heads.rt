@@ -21,7 +21,7 @@ const EMPTY: &str = "Content-Length: 0\r\n";
 
 const TAG: &str = "ETag: \"1-1\"\r\n";
 
-/// The text of a head of this status, with these fields and a last one.
+/// Returns the text of a head of this status, with these fields and a last one.
 fn head_text(alloc: Global, status: &str, fields: &str, last: &str) -> Result<String, Fail> {
     Ok(format!(in alloc; "HTTP/1.1 {status}\r\n{fields}{last}\r\n")?)
 }

@@ -8,7 +8,7 @@ use std::alloc::Global;
 use std::process::Abort;
 use std::test::Fail;
 
-/// The number of the reason why an answer is not used, or 0 for a piece.
+/// Returns the number of the reason why an answer isn't used, or 0 for a piece.
 pub fn told(bytes: &[u8]) -> u8 {
     match read_answer(bytes) {
         Reading::Piece(_) => 0,
@@ -23,7 +23,7 @@ fn piece(bytes: &[u8]) -> Result<Piece<'_>, Fail> {
     }
 }
 
-/// Expects the tag and the bytes of a piece, and whether it is the whole file, its first position, and the length of the file.
+/// Expects the tag and the bytes of a piece. `numbers` has whether it is the whole file, its first position, and the length of the file.
 fn expect_piece(
     rt: &impl Abort,
     piece: &Piece<'_>,
@@ -35,14 +35,14 @@ fn expect_piece(
     expect_eq!(rt; (piece.whole, piece.first, piece.complete), numbers);
 }
 
-/// The first head with the first bytes of the body.
+/// Returns the first head with the first bytes of the body.
 fn first_answer(alloc: Global) -> Result<Vec<u8>, Memory> {
     let mut text = Vec::from_slice(alloc, FIRST_HEAD)?;
     text.extend_from_slice(b"II*")?;
     Ok(text)
 }
 
-/// Expects that a front of the first answer is told under this number.
+/// Expects this number for a front of the first answer.
 fn expect_told(rt: &impl Abort, text: &[u8], (cut, want): (usize, u8)) {
     assert!(rt; cut <= text.len(), "at {cut}");
     assert_eq!(rt; told(&text[..cut]), want, "at {cut}");
@@ -92,7 +92,7 @@ fn push_line(text: &mut Vec<u8>, line: &[u8]) -> Result<(), Memory> {
     Ok(())
 }
 
-/// The first head, with another line at a place.
+/// Returns the first head with another line at a place.
 fn with_line(alloc: Global, place: usize, line: &[u8]) -> Result<Vec<u8>, Memory> {
     let mut text = Vec::new(alloc);
     for (i, old) in LINES.iter().enumerate() {
@@ -102,7 +102,8 @@ fn with_line(alloc: Global, place: usize, line: &[u8]) -> Result<Vec<u8>, Memory
     Ok(text)
 }
 
-/// Changed lines of the first head, and the number of the reason why it is not used, or 0.
+/// A row has the place of a changed line of the first head, and the line. Then comes the number of the reason why the head isn't used, or
+/// 0.
 #[rattlefmt::skip]
 const CHANGED_LINES: [(usize, &str, u8); 28] = [
     (1, "ETag: \"1-1\"", 0),
@@ -150,7 +151,7 @@ fn tells_why_an_answer_is_not_used(rt: HostRuntime) -> Result<(), Fail> {
     Ok(())
 }
 
-/// Lengths of a whole file, as they are written, and where they are read.
+/// A row has the length of a whole file as it is written, and the number where it is read.
 const LENGTHS: [(&str, Option<u64>); 4] = [
     ("18446744073709551615", Some(18446744073709551615)),
     ("0018446744073709551614", Some(18446744073709551614)),
@@ -158,12 +159,12 @@ const LENGTHS: [(&str, Option<u64>); 4] = [
     ("36893488147419103232", None),
 ];
 
-/// A head with this length of a whole file.
+/// Returns a head with this length of a whole file.
 fn with_length(alloc: Global, length: &str) -> Result<String, Fail> {
     Ok(format!(in alloc; "HTTP/1.1 200 OK\r\nETag: \"1\"\r\nContent-Length: {length}\r\n\r\n")?)
 }
 
-/// The length of the file of which an answer brings a piece.
+/// Returns the length of the file of which an answer brings a piece.
 fn complete(bytes: &[u8]) -> Option<u64> {
     match read_answer(bytes) {
         Reading::Piece(piece) => Some(piece.complete),
@@ -180,7 +181,7 @@ fn reads_lengths_of_64_bits(rt: HostRuntime) -> Result<(), Fail> {
     Ok(())
 }
 
-/// A head with this tag.
+/// Returns a head with this tag.
 fn with_tag(alloc: Global, tag: &[u8]) -> Result<Vec<u8>, Memory> {
     let mut text = Vec::from_slice(alloc, b"HTTP/1.1 200 OK\r\nContent-Length: 0\r\nETag: ")?;
     text.extend_from_slice(tag)?;
@@ -201,7 +202,7 @@ fn takes_tags_up_to_64_bytes(rt: HostRuntime) -> Result<(), Fail> {
     Ok(())
 }
 
-/// The status for which an answer is not used, or 0.
+/// Returns the status for which an answer isn't used, or 0.
 fn status(bytes: &[u8]) -> u16 {
     match read_answer(bytes) {
         Reading::NotUsed(Why::Status(code)) => code,
@@ -244,7 +245,7 @@ fn reads_heads_as_other_servers_write_them(rt: HostRuntime) -> Result<(), Fail> 
     Ok(())
 }
 
-/// The front filled up to `n` bytes, and then the back.
+/// Returns the front, filled up to `n` bytes, and then the back.
 pub fn padded(alloc: Global, front: &[u8], n: usize, back: &[u8]) -> Result<Vec<u8>, Memory> {
     let mut text = Vec::from_slice(alloc, front)?;
     for _ in front.len()..n {
@@ -254,13 +255,13 @@ pub fn padded(alloc: Global, front: &[u8], n: usize, back: &[u8]) -> Result<Vec<
     Ok(text)
 }
 
-/// Whether a request is read of the front filled up to `n` bytes, and then the back.
+/// Returns whether a request is read of the front, filled up to `n` bytes, and then the back.
 fn is_padded_request(alloc: Global, front: &[u8], n: usize, back: &[u8]) -> Result<bool, Memory> {
     let text = padded(alloc, front, n, back)?;
     Ok(read_request(&text).is_some())
 }
 
-/// What is told of the front filled up to `n` bytes, and then the back.
+/// Returns the number for the front, filled up to `n` bytes, and then the back.
 fn told_of_padded(alloc: Global, front: &[u8], n: usize, back: &[u8]) -> Result<u8, Memory> {
     let text = padded(alloc, front, n, back)?;
     Ok(told(&text))
@@ -286,7 +287,7 @@ fn takes_heads_of_8192_and_4096_bytes_and_no_more(rt: HostRuntime) -> Result<(),
     Ok(())
 }
 
-/// The front, so many further fields, and the back.
+/// Returns the front, `fields` further fields, and the back.
 fn many(alloc: Global, front: &[u8], fields: u32, back: &[u8]) -> Result<Vec<u8>, Memory> {
     let mut text = Vec::from_slice(alloc, front)?;
     for _ in 0..fields {
@@ -296,14 +297,14 @@ fn many(alloc: Global, front: &[u8], fields: u32, back: &[u8]) -> Result<Vec<u8>
     Ok(text)
 }
 
-/// What is told of a head with so many further fields, and then the back.
+/// Returns the number for a head with `fields` further fields, and then the back.
 fn told_of_many(alloc: Global, fields: u32, back: &[u8]) -> Result<u8, Memory> {
     let front = b"HTTP/1.1 200 OK\r\nETag: \"1\"\r\nContent-Length: 0\r\n";
     let text = many(alloc, front, fields, back)?;
     Ok(told(&text))
 }
 
-/// Whether a request with so many fields is read.
+/// Returns whether a request with `fields` fields is read.
 fn is_request_of_many(alloc: Global, fields: u32) -> Result<bool, Memory> {
     let text = many(alloc, b"GET /a HTTP/1.1\r\n", fields, b"\r\n")?;
     Ok(read_request(&text).is_some())

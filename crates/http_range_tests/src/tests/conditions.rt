@@ -6,7 +6,7 @@ use http_range::{CheckReading, Request, Tag, any_match, read_check, write_check}
 use std::process::Abort;
 use std::test::Fail;
 
-/// Values of a condition, and whether they match the tag weakly and strongly.
+/// A row has the value of a condition, and whether it matches the tag weakly and strongly.
 const VALUES: [(&str, bool, bool); 17] = [
     ("\"1-1\"", true, true),
     ("W/\"1-1\"", true, false),
@@ -75,7 +75,7 @@ fn writes_a_check_as_a_head_request(rt: HostRuntime) -> Result<(), Fail> {
     Ok(())
 }
 
-/// Answers to a check, and the number of the reason why they are not used, or 0 for the tag.
+/// A row has an answer to a check, and the number of the reason why it isn't used, or 0 for the tag.
 #[rattlefmt::skip]
 const ANSWERS: [(&str, u8); 11] = [
     ("HTTP/1.1 304 Not Modified\r\nETag: \"1-1\"\r\n\r\n", 0),
@@ -91,7 +91,7 @@ const ANSWERS: [(&str, u8); 11] = [
     ("HTTP/1.1 304 Not Modified\r\nETag: \"1-1\"\r\nContent-Encoding: gzip\r\n\r\n", 9),
 ];
 
-/// The number of the reason why an answer to a check is not used, or 0 for this tag.
+/// Returns the number of the reason why an answer to a check isn't used, or 0 for this tag.
 fn told_of_check(bytes: &[u8], tag: &Tag) -> Option<u8> {
     match read_check(bytes) {
         CheckReading::Seen(seen) if seen == *tag => Some(0),

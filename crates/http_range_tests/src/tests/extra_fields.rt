@@ -6,7 +6,7 @@ use http_range::{
 use std::alloc::Global;
 use std::test::Fail;
 
-/// A name, a value, and why they aren't added (RFC 9110, sections 5.5 and 5.6.2).
+/// A row has a name and a value, and why they aren't added (RFC 9110, sections 5.5 and 5.6.2).
 type Row = (&'static str, &'static str, FieldError);
 
 const REFUSED: [Row; 30] = [
@@ -39,7 +39,7 @@ const REFUSED: [Row; 30] = [
     ("A", "v\r\nHost: h", FieldError::Value),
     ("A", "\u{7f}", FieldError::Value),
     ("A", "\u{e4}", FieldError::Value),
-    // The first refusal that holds.
+    // Where several refusals hold, the first one counts.
     ("a b", " v", FieldError::Name),
 ];
 
@@ -74,7 +74,7 @@ fn takes_at_most_1024_bytes(rt: HostRuntime) -> Result<(), Fail> {
     Ok(())
 }
 
-/// Two lines that may be added.
+/// Returns two lines that may be added.
 fn two_lines(alloc: Global) -> Result<RequestFields, FieldError> {
     let mut fields = RequestFields::new(alloc);
     fields.push(b"Authorization", b"Bearer 0f.\t~")?;

@@ -3,15 +3,15 @@ use assertion_support::expect_eq;
 use http_range::{Frame, Why, read_frame};
 use std::test::Fail;
 
-/// The fields of a part of 4 bytes.
+/// The head of a part of 4 bytes, with further fields.
 macro_rules! part {
     ($line:literal, $more:literal) => {
         concat!($line, "\r\nETag: \"1\"\r\nContent-Range: bytes 0-3/9\r\nContent-Length: 4\r\n", $more, "\r\n")
     };
 }
 
-/// A front of an answer, with what is read of it: the status, the length of the body, whether the connection ends, and whether the
-/// answer is an interim one.
+/// A row has a front of an answer, and what is read of it. That is the status, the length of the body, whether the connection ends, and
+/// whether the answer is an interim one.
 type Row = (&'static str, Result<(u16, Option<u64>, bool, bool), Why>);
 
 const ROWS: [Row; 15] = [
@@ -74,7 +74,7 @@ const ROWS: [Row; 15] = [
     ),
 ];
 
-/// What a row names of a frame.
+/// Returns what a row names of a frame.
 fn told(read: Result<Frame, Why>) -> Result<(u16, Option<u64>, bool, bool), Why> {
     let frame = read?;
     Ok((frame.status, frame.length, frame.closes, frame.is_interim()))
@@ -88,7 +88,7 @@ fn reads_where_answers_end(rt: HostRuntime) -> Result<(), Fail> {
     Ok(())
 }
 
-/// The size of a head is that of its bytes, whatever follows.
+/// Expects the size of a head alone, whatever follows it.
 #[test]
 fn reads_the_size_of_a_head(rt: HostRuntime) -> Result<(), Fail> {
     let read = read_frame(b"HTTP/1.1 100 Continue\r\n\r\nHTTP/1.1 200 OK\r\n\r\n");

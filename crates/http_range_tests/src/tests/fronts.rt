@@ -14,7 +14,7 @@ fn head(bytes: &[u8]) -> Result<Head, Fail> {
     }
 }
 
-/// The number of the reason why a head is not used, or 0 for one that brings a piece.
+/// Returns the number of the reason why a head isn't used, or 0 for one that brings a piece.
 pub fn told_of_head(bytes: &[u8]) -> u8 {
     match read_head(bytes) {
         HeadReading::Head(_) => 0,
@@ -22,8 +22,8 @@ pub fn told_of_head(bytes: &[u8]) -> u8 {
     }
 }
 
-/// What a head says: the tag, whether the answer is the whole file, the first position, the length of the file, and the lengths of
-/// the body and of the head.
+/// Returns what a head says: the tag, whether the answer is the whole file, and the first position. Then come the length of the file, and
+/// the lengths of the body and of the head.
 fn said(head: &Head) -> (&[u8], bool, u64, u64, u64, usize) {
     (
         head.tag.as_bytes(),
@@ -35,14 +35,14 @@ fn said(head: &Head) -> (&[u8], bool, u64, u64, u64, usize) {
     )
 }
 
-/// The first head with the first bytes of the body.
+/// Returns the first head with the first bytes of the body.
 fn first_answer(alloc: Global) -> Result<Vec<u8>, Memory> {
     let mut text = Vec::from_slice(alloc, FIRST_HEAD)?;
     text.extend_from_slice(b"II*\0")?;
     Ok(text)
 }
 
-/// Expects that a front of the first answer is told under this number.
+/// Expects this number for a front of the first answer.
 fn expect_told(rt: &impl Abort, text: &[u8], (cut, want): (usize, u8)) {
     assert!(rt; cut <= text.len(), "at {cut}");
     let front = &text[..cut];
@@ -93,7 +93,7 @@ fn tells_the_length_of_the_body_and_not_what_follows(rt: HostRuntime) -> Result<
     Ok(())
 }
 
-/// A head that is filled up to `n` bytes, its end, and a byte of the body.
+/// Returns a head that is filled up to `n` bytes, its end, and a byte of the body.
 fn padded_answer(alloc: Global, n: usize) -> Result<Vec<u8>, Memory> {
     padded(
         alloc,
@@ -103,13 +103,13 @@ fn padded_answer(alloc: Global, n: usize) -> Result<Vec<u8>, Memory> {
     )
 }
 
-/// Expects that a front of an answer is told under this number, by its head.
+/// Expects this number for a front of an answer, by its head.
 fn expect_told_of_head(rt: &impl Abort, text: &[u8], (cut, want): (usize, u8)) {
     assert!(rt; cut <= text.len(), "at {cut}");
     assert_eq!(rt; told_of_head(&text[..cut]), want, "at {cut}");
 }
 
-/// The length of the head of an answer.
+/// Returns the length of the head of an answer.
 fn size(bytes: &[u8]) -> Option<usize> {
     match read_head(bytes) {
         HeadReading::Head(head) => Some(head.size),

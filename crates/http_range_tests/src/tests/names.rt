@@ -18,7 +18,7 @@ const TARGETS: [&str; 13] = [
     "/a=b&c",
 ];
 
-/// Texts that are none.
+/// Texts that aren't targets in origin-form.
 const NO_TARGETS: [&str; 24] = [
     "",
     "a",
@@ -46,7 +46,7 @@ const NO_TARGETS: [&str; 24] = [
     "/\u{e4}",
 ];
 
-/// Hosts with ports of URLs (RFC 3986, sections 3.2.2 and 3.2.3).
+/// Hosts with ports, as URLs have them (RFC 3986, sections 3.2.2 and 3.2.3).
 const AUTHORITIES: [&str; 16] = [
     "h",
     "cog.test",
@@ -66,7 +66,7 @@ const AUTHORITIES: [&str; 16] = [
     "1.2.3.4.5",
 ];
 
-/// Texts that are none.
+/// Texts that aren't such hosts with ports.
 const NO_AUTHORITIES: [&str; 24] = [
     "",
     ":80",

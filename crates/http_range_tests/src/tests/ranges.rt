@@ -3,7 +3,7 @@ use assertion_support::expect_eq;
 use http_range::{RangeSpec, Resolved, read_range, resolve};
 use std::process::Abort;
 
-/// Expects what each value names in a content of so many bytes.
+/// Expects what each value names in a content of its length.
 fn expect_all(rt: &impl Abort, rows: &[(&str, u64)], want: Resolved) {
     for row in rows {
         let (value, len) = *row;
@@ -16,7 +16,7 @@ fn expect_all(rt: &impl Abort, rows: &[(&str, u64)], want: Resolved) {
     }
 }
 
-/// Values, the length of a content, and the first and the last position of the part.
+/// A row has a value, the length of a content, and the first and the last position of the part.
 const PARTS: [(&str, u64, u64, u64); 9] = [
     ("bytes=0-", 1, 0, 0),
     ("bytes=00-01", 378, 0, 1),
@@ -34,7 +34,7 @@ const PARTS: [(&str, u64, u64, u64); 9] = [
     ),
 ];
 
-/// Values of the last bytes.
+/// Rows of values for the last bytes.
 const SUFFIXES: [(&str, u64, u64, u64); 3] = [
     ("bytes=-7", 378, 371, 377),
     ("bytes=-7", 5, 0, 4),
@@ -56,7 +56,7 @@ fn answers_a_suffix_range_with_the_end_of_the_content(rt: HostRuntime) {
     }
 }
 
-/// Values of ranges, and the length of a content that has none of their positions.
+/// A row has a value of ranges, and the length of a content that has none of their positions.
 #[rattlefmt::skip]
 const UNSATISFIABLE: [(&str, u64); 6] = [
     ("bytes=1-1", 1),
@@ -72,7 +72,7 @@ fn refuses_a_range_of_which_the_content_has_nothing(rt: HostRuntime) {
     expect_all(&rt, &UNSATISFIABLE, Resolved::Unsatisfiable);
 }
 
-/// Values that aren't one range of bytes, and the length of a content.
+/// A row has a value that isn't one range of bytes, and the length of a content.
 #[rattlefmt::skip]
 const IGNORED: [(&str, u64); 11] = [
     ("bytes=5-4", 3),

@@ -23,7 +23,7 @@ const SECOND: Span = Span {
     last: 67705,
 };
 
-/// The request that is read.
+/// Returns the request that is read.
 pub fn request_of(bytes: &[u8]) -> Result<Request<'_>, Fail> {
     match read_request(bytes) {
         Some(request) => Ok(request),

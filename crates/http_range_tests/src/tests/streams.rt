@@ -4,7 +4,7 @@ ghost use Rattle.std.specs.Prelude.{◌≤◌, length};
 use assertion_support::expect_eq;
 use http_range::{law_messages_stay, message_length};
 
-/// The length of the first message, where the bytes come in two pieces.
+/// Returns the length of the first message, where the bytes come in two pieces.
 fn length_in_pieces(bytes: &[u8], cut: usize) -> Option<usize>
     requires { cut ≤ length bytes.now }
 {
@@ -15,7 +15,7 @@ fn length_in_pieces(bytes: &[u8], cut: usize) -> Option<usize>
     }
 }
 
-/// Streams, and the length of their first message, or 0.
+/// A row has a stream, and the length of its first message, or 0.
 const STREAMS: [(&str, usize); 9] = [
     (
         "GET /a HTTP/1.1\r\nHost: h\r\n\r\nGET /a HTTP/1.1\r\n\r\n",

@@ -3,7 +3,7 @@ use http_range::{Memory, Tag, publication_tag};
 use std::alloc::Global;
 use std::test::Fail;
 
-/// The tag of the first publication of the first epoch.
+/// Returns the tag of the first publication of the first epoch.
 pub fn tag_1() -> Result<Tag, Fail> {
     Ok(Tag::new(b"\"1-1\"").ok_or("tag")?)
 }
@@ -12,7 +12,7 @@ pub fn tag_1() -> Result<Tag, Fail> {
 pub const LONGEST_TAG: &[u8] =
     b"\"23456789012345678901234567890123456789012345678901234567890123\"";
 
-/// The longest tag with another byte at a place.
+/// Returns the longest tag with another byte at a place.
 fn changed(alloc: Global, place: usize) -> Result<Vec<u8>, Memory> {
     let mut text = Vec::new(alloc);
     for (i, byte) in LONGEST_TAG.iter().enumerate() {

@@ -6,7 +6,7 @@ use std::test::Fail;
 
 const PATH: &str = "programs_tests_disk";
 
-/// What the disk refuses.
+/// Returns why the disk refuses a path, if it does.
 fn refused(rt: &HostRuntime, path: &[u8]) -> Option<LoadError> {
     let mut disk = Disk { rt };
     disk.load(path).err()

@@ -1,4 +1,4 @@
-//! Faults that no command line of a test meets, told as they are, and the faults of the file that help names.
+//! Faults that no command line of a test meets, reported as they are, and the faults of the file that help names.
 use cog_server::PublishError;
 use programs::Exit;
 use programs_support::{Capture, tell};
@@ -8,7 +8,7 @@ use std::process::Abort;
 use std::test::Fail;
 use tiff_dir::FileFault;
 
-/// A fault of the file, its name and its line.
+/// A row has a fault of the file, its name and its line.
 const FILE_FAULTS: [(FileFault, &str, &str); 18] = [
     (FileFault::Header, "Header", "cogread: fault 1\n"),
     (FileFault::PastEnd, "PastEnd", "cogread: fault 2\n"),
@@ -38,7 +38,7 @@ const FILE_FAULTS: [(FileFault, &str, &str); 18] = [
     (FileFault::KeyPlace, "KeyPlace", "cogread: fault 18\n"),
 ];
 
-/// Whether the fault is told by this line on standard error, and ends with this status.
+/// Returns whether the fault is printed as this line on standard error, with this status.
 fn is_told(
     capture: Capture<'_, HostRuntime>,
     program: &str,
@@ -85,7 +85,7 @@ fn tells_nothing_where_nobody_reads(rt: HostRuntime) -> Result<(), Fail> {
     Ok(())
 }
 
-/// Whether the fault is told by its program and these words, and ends with this status.
+/// Returns whether the fault is printed as its program and these words, with this status.
 fn is_told_by_words(
     rt: &HostRuntime,
     program: &str,
@@ -107,7 +107,7 @@ fn tells_a_fault_of_the_file_by_its_number(rt: HostRuntime) {
     }
 }
 
-/// The fifth refusal needs more publications than a test can make.
+/// Expects the line of the fifth refusal, which needs more publications than a test can make.
 #[test]
 fn tells_that_an_epoch_is_exhausted(rt: HostRuntime) -> Result<(), Fail> {
     let refused = Exit::Refused(PublishError::Exhausted, String::from_str(rt.alloc(), "a")?);

@@ -21,7 +21,7 @@ fn replaces_the_file(rt: HostRuntime) -> Result<(), Fail> {
     Ok(())
 }
 
-/// Whether a file has just these bytes.
+/// Returns whether a file has just these bytes.
 fn has<R: Files + AllocGlobal>(rt: &R, path: &str, bytes: &[u8]) -> bool {
     match fs::read(rt, path) {
         Ok(read) => read.as_slice() == bytes,
@@ -29,7 +29,7 @@ fn has<R: Files + AllocGlobal>(rt: &R, path: &str, bytes: &[u8]) -> bool {
     }
 }
 
-/// Another name of the file still has what was there.
+/// Expects that another name of the file still has the former bytes.
 #[test]
 fn puts_another_file_in_its_place(rt: HostRuntime) -> Result<(), Fail> {
     let (path, name) = ("programs_tests_place", "programs_tests_name");
@@ -45,7 +45,7 @@ fn puts_another_file_in_its_place(rt: HostRuntime) -> Result<(), Fail> {
     Ok(())
 }
 
-/// A link stands in the place where the file is written first: what it leads to stays as it is, there or not.
+/// Expects that a link isn't followed that stands where the file is written first. What it leads to stays as it is, there or not.
 #[test]
 fn follows_no_link_beside_the_file(rt: HostRuntime) -> Result<(), Fail> {
     let path = "programs_tests_linked";
@@ -58,7 +58,7 @@ fn follows_no_link_beside_the_file(rt: HostRuntime) -> Result<(), Fail> {
 
 const BESIDE_LINKED: &str = "programs_tests_linked.part";
 
-/// Expects that another file is kept where a link leads to it, and that a file takes the path, not the link.
+/// Expects that the other file that a link leads to is kept, and that a file takes the path, not the link.
 fn expect_other_kept<R: Abort + Files + AllocGlobal>(
     rt: &R,
     path: &str,
@@ -93,7 +93,7 @@ fn expect_none_made<R: Abort + Files + AllocGlobal>(
     Ok(())
 }
 
-/// A folder stands in that place.
+/// Expects that the file is kept where a folder stands in that place.
 #[test]
 fn leaves_the_file_where_nothing_can_be_written(rt: HostRuntime) -> Result<(), Fail> {
     let (path, beside) = ("programs_tests_kept", "programs_tests_kept.part");
@@ -106,7 +106,7 @@ fn leaves_the_file_where_nothing_can_be_written(rt: HostRuntime) -> Result<(), F
     Ok(())
 }
 
-/// A folder takes no file's place.
+/// Expects that a folder isn't replaced by a file.
 #[test]
 fn leaves_nothing_of_a_file_that_is_not_written(rt: HostRuntime) -> Result<(), Fail> {
     assert!(rt; replace_file(&rt, "programs_tests_nowhere/a", b"text", b"").is_err());
@@ -115,13 +115,13 @@ fn leaves_nothing_of_a_file_that_is_not_written(rt: HostRuntime) -> Result<(), F
     Ok(())
 }
 
-/// What goes to a device goes there; this one is always full.
+/// Expects that a device isn't replaced: what is written goes to it. This one is always full.
 #[test]
 fn replaces_no_device(rt: HostRuntime) {
     assert!(rt; replace_file(&rt, "/dev/full", b"", b"text").is_err());
 }
 
-/// Where nothing is read, no file is made.
+/// Expects that no file is made where nothing is read.
 #[test]
 fn makes_no_file_without_a_report(rt: HostRuntime) -> Result<(), Fail> {
     let rows: [FaultRow<'static>; 1] = [(

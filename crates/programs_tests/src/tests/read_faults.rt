@@ -1,4 +1,4 @@
-//! `cogread`: the lines of its faults, where no server is.
+//! `cogread`: the lines of its faults, where there is no server.
 use super::{FaultRow, expect_faults};
 use std::test::Fail;
 
@@ -23,7 +23,7 @@ const FAULTS: [FaultRow<'static>; 50] = [
     ("cogread info 127.0.0.1:1 a?", "cogread: refused 2\n", 2),
     // No address has that name.
     ("cogread info 127.0.0.1 a --requests 1", "cogread: no report\n", 4),
-    // A URL in the place of a server and a name.
+    // A URL instead of a server and a name.
     ("cogread info http://127.0.0.1:1/a", "cogread: no report: no connection: Connection refused (os error 111)\n", 4),
     ("cogread window http://127.0.0.1:1/a/b.tif 0 0 1 x", "cogread: not a number: x. Give H a number from 0 to 4294967295\n", 2),
     ("cogread info http://127.0.0.1:1/year=2020/a%20b+~.tif?v=1&w", "cogread: no report: no connection: Connection refused (os error 111)\n", 4),
@@ -45,7 +45,7 @@ const FAULTS: [FaultRow<'static>; 50] = [
         2,
     ),
     ("cogread info http://me@h/a", "cogread: can't read http://me@h/a: a user's name and a password aren't sent: use --header 'Authorization: Basic ..'\n", 2),
-    // Rectangles: each number is finite, and the rectangle isn't turned over.
+    // Rectangles: each number is finite, and the sides aren't exchanged.
     ("cogread window h a --bounds 1 x 2 3", "cogread: not a number: x. Give --bounds W S E N: four numbers in the file's own coordinates\n", 2),
     ("cogread window h a --bounds 1 2 nan 3", "cogread: not a number: nan. Give --bounds W S E N: four numbers in the file's own coordinates\n", 2),
     ("cogread window h a --bounds -inf 2 3 4", "cogread: not a number: -inf. Give --bounds W S E N: four numbers in the file's own coordinates\n", 2),
@@ -54,12 +54,12 @@ const FAULTS: [FaultRow<'static>; 50] = [
     ("cogread window h a --bounds 1 -1 2 -2", "cogread: no rectangle: W is greater than E, or S than N. Give --bounds W S E N\n", 2),
     ("cogread window 127.0.0.1:1 a --bounds -2 -2 -1.5 -1e-5 --level x", "cogread: not a number: x\n", 2),
     ("cogread window http://127.0.0.1:1/a --bounds -2 -2 -1.5 -1e-5", "cogread: no report: no connection: Connection refused (os error 111)\n", 4),
-    // A number is reported with its option and range, where a URL, a path or files alone stand.
+    // The fault of a number names its option and range, where a URL, a path or files alone stand.
     ("cogread info http://h/a --blocks 65", "cogread: not a number: 65. Give --blocks a number from 66 to 4096\n", 2),
     ("cogread window http://h/a 0 -1 1 1", "cogread: not a number: -1. Give numbers without a sign\n", 2),
     ("cogread window http://h/a 0 0 1 1 --level -2", "cogread: not a number: -2. Give numbers without a sign\n", 2),
     ("cogserve a --patience 0", "cogserve: not a number: 0. Give --patience a number from 1 to 3600\n", 2),
-    // What names no file, and an address at which no server can listen.
+    // Words that name no file, and an address at which no server can listen.
     ("cogread info ftp://h/a", "cogread: can't read ftp://h/a: it isn't a URL of http. Give http://HOST/PATH, the path of a file, or SERVER NAME\n", 2),
     (
         "cogread info programs_tests_none",
@@ -68,7 +68,7 @@ const FAULTS: [FaultRow<'static>; 50] = [
     ),
     ("cogread info .", "cogread: can't read .: it isn't a plain file. Give http://HOST/PATH, the path of a file, or SERVER NAME\n", 2),
     ("cogserve --listen nowhere a", "cogserve: can't listen at nowhere: invalid socket address. Give --listen HOST:PORT, as 127.0.0.1:0 for any free port\n", 1),
-    // As it was before there were URLs: a server and a name.
+    // A server and a name, as it was before there were URLs.
     ("cogread info http://h/a b", "cogread: refused 1\n", 2),
 ];
 

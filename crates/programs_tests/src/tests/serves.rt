@@ -13,7 +13,7 @@ use std::{fs, io};
 
 const LISTENS_NOWHERE: [&str; 4] = ["cogserve", "--listen", "nowhere", "--epoch"];
 
-/// The words of `cogserve` with this epoch, this number of connections and these files.
+/// Returns the words of `cogserve` with this epoch, this number of connections and these files.
 fn words_of<S: AsStr>(
     alloc: Global,
     epoch: &str,
@@ -27,7 +27,7 @@ fn words_of<S: AsStr>(
     Ok(words)
 }
 
-/// Puts each of these behind the words.
+/// Appends each of these to the words.
 fn push_each<S: AsStr>(
     alloc: Global,
     words: &mut Vec<String>,
@@ -42,7 +42,7 @@ fn push_each<S: AsStr>(
 /// One file, without a path.
 const NO_FILE: &[&str] = &["a"];
 
-/// An epoch, a number of connections and files, and what is told of them on standard error.
+/// A row has an epoch, a number of connections and files, and what is printed for them on standard error.
 #[rattlefmt::skip]
 const OF_WORDS: [(&str, &str, &[&str], &str); 9] = [
     ("e", "0", NO_FILE, "cogserve: not a number: e\n"),
@@ -64,7 +64,7 @@ fn refuses_the_first_word_of_another_form(rt: HostRuntime) -> Result<(), Fail> {
     Ok(())
 }
 
-/// Expects what is told of an epoch, a number of connections and files.
+/// Expects what is printed for an epoch, a number of connections and files.
 fn expect_words<R>(
     rt: &R,
     (epoch, connections, files): (&str, &str, &[&str]),
@@ -77,7 +77,7 @@ where
     expect_told(rt, err, &words, (out, err, status))
 }
 
-/// An option that may be left out, and the word of it that is no number of its range.
+/// A row has an option that may be left out, a word for it that isn't accepted, and what is printed.
 const OF_CHOICES: [(&str, &str, &str); 10] = [
     ("--at-once", "0", "cogserve: not a number: 0\n"),
     ("--at-once", "10001", "cogserve: not a number: 10001\n"),
@@ -95,7 +95,7 @@ const OF_CHOICES: [(&str, &str, &str); 10] = [
     ),
 ];
 
-/// The values beside each limit are numbers: then the next fault is told.
+/// Rows of values at each limit that are accepted: then the next fault is reported.
 const WITHIN: [(&str, &str); 8] = [
     ("--at-once", "1"),
     ("--at-once", "10000"),
@@ -118,7 +118,7 @@ fn refuses_numbers_past_the_limits_of_options(rt: HostRuntime) -> Result<(), Fai
     Ok(())
 }
 
-/// Expects what is told on standard error of an option with this word.
+/// Expects what is printed on standard error for an option with this word.
 fn expect_choice<R>(rt: &R, (option, word, err): (&str, &str, &str)) -> Result<(), AllocError>
 where
     R: Abort + Files + Clock + AllocGlobal + Net<Listener = TcpListener, Stream = TcpStream>,
@@ -128,7 +128,7 @@ where
     expect_told(rt, name.as_str(), &words, ("", err, 2))
 }
 
-/// An epoch and files, and what is printed of them to standard output and told on standard error.
+/// A row has an epoch and files, and what is printed for them on standard output and on standard error.
 #[rattlefmt::skip]
 const OF_FILES: [(&str, &[&str], &str, &str); 8] = [
     ("1", &["a=programs_tests_nowhere"], "", "cogserve: can't read programs_tests_nowhere\n"),
@@ -155,7 +155,7 @@ const PATHS: [&str; 4] = [
     "programs_tests_large",
 ];
 
-/// Files at these paths: two of some bytes, one of none, and one of a byte more than may be published.
+/// Makes files at these paths: two of some bytes, one of none, and one of a byte more than may be published.
 fn make_files<R: Files>(rt: &R) -> io::Result<()> {
     let [some, empty, equals, large] = PATHS;
     fs::write(rt, some, "some bytes")?;
@@ -176,7 +176,7 @@ fn publishes_the_files_before_the_first_fault(rt: HostRuntime) -> Result<(), Fai
     Ok(())
 }
 
-/// So many files of one path, named by numbers.
+/// Returns the words of `count` files of one path, named by numbers.
 fn many_files(alloc: Global, count: usize) -> Result<Vec<String>, AllocError> {
     let mut files = Vec::new(alloc);
     for k in 0..count {
@@ -185,7 +185,7 @@ fn many_files(alloc: Global, count: usize) -> Result<Vec<String>, AllocError> {
     Ok(files)
 }
 
-/// The lines of so many publications.
+/// Returns the lines of `count` publications.
 fn many_lines(alloc: Global, count: u32) -> Result<String, AllocError> {
     let mut lines = String::new(alloc);
     for k in 0..count {
@@ -211,7 +211,7 @@ fn refuses_the_65th_name(rt: HostRuntime) -> Result<(), Fail> {
     Ok(())
 }
 
-/// Files, and what is told of them on standard error where a log is kept: why, and then the fault.
+/// A row has a file, and what is printed for it on standard error with a log: why, and then the fault.
 #[rattlefmt::skip]
 const LOGGED: [(&str, &str, &str); 4] = [
     (

@@ -53,7 +53,7 @@ open 0 level 0 2 1 3 2
 exchange 0
 ";
 
-/// A script, and what it prints, tells and ends with.
+/// A row has a script, what it prints on standard output and on standard error, and its status.
 #[rattlefmt::skip]
 const SCRIPTS: [(&str, &str, &str, u8); 6] = [
     (SCRIPT, LOG, "", 0),
@@ -75,7 +75,7 @@ fn runs_a_script_of_the_disk_or_tells_its_first_fault(rt: HostRuntime) -> Result
     Ok(())
 }
 
-/// Expects what is told of a script, in pieces of each size.
+/// Expects what is printed for a script, in pieces of each size.
 fn expect_script<R>(rt: &R, script: &str, want: Want<'_>) -> Result<(), Fail>
 where
     R: Abort + Files + Clock + AllocGlobal + Net<Listener = TcpListener, Stream = TcpStream>,

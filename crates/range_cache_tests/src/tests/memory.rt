@@ -1,5 +1,5 @@
-//! Where memory is refused in the middle of a piece, a beginning of its blocks is stored, each whole. The test passes with ample
-//! memory, and wherever one allocation is refused.
+//! Where memory is refused in the middle of a piece, a beginning of its blocks is stored, each whole. The test passes with ample memory,
+//! and wherever one allocation is refused.
 ghost use Rattle.std.specs.Prelude.{◌≡◌, IfOk, vec_len};
 
 use super::piece::{piece, put, read};
@@ -10,7 +10,7 @@ use std::process::Abort;
 use std::test::Fail;
 use tiff_dir::{Memory, Span};
 
-/// Four whole blocks, and a last one of 2,170 bytes.
+/// The length of a file of four whole blocks, and a last one of 2,170 bytes.
 const COMPLETE: u64 = 67706;
 
 const ALL: Span = Span {
@@ -18,7 +18,7 @@ const ALL: Span = Span {
     last: 67705,
 };
 
-/// A cache of 66 blocks, made again where memory was refused.
+/// Makes a cache of 66 blocks. Makes it again where memory was refused.
 fn cache_again(alloc: Global) -> Result<Cache, CacheError> {
     match Cache::new(alloc, 66) {
         Err(_) => Cache::new(alloc, 66),
@@ -26,7 +26,7 @@ fn cache_again(alloc: Global) -> Result<Cache, CacheError> {
     }
 }
 
-/// All bytes of the file, made again where memory was refused.
+/// Returns all bytes of the file. Makes them again where memory was refused.
 fn file_again(alloc: Global) -> Result<Vec<u8>, AllocError>
     ensures { IfOk result (λ v. vec_len v ≡ 67706) }
 {
@@ -36,7 +36,7 @@ fn file_again(alloc: Global) -> Result<Vec<u8>, AllocError>
     }
 }
 
-/// The first position of each block, and its length.
+/// A row has the first position of a block, and its length.
 const BLOCKS: [(usize, usize); 5] = [
     (0, 16384),
     (16384, 16384),
@@ -45,7 +45,7 @@ const BLOCKS: [(usize, usize); 5] = [
     (65536, 2170),
 ];
 
-/// How many of the file's blocks are there, from the first on. No other one is, and each has its bytes.
+/// Returns how many of the file's blocks are there, from the first on. Expects that no other one is, and that each has its bytes.
 fn blocks_there<R: Abort>(rt: &R, cache: &mut Cache, file: &[u8]) -> usize {
     let mut count = 0usize;
     let mut room = [0u8; 16384];

@@ -4,10 +4,10 @@ ghost use Rattle.std.specs.Prelude.{◌<◌, ◌+◌, ◌^◌};
 use std::alloc::{AllocError, Global};
 use tiff_dir::Span;
 
-/// The bytes of a block.
+/// The number of bytes of a block.
 pub const BLOCK: u64 = 16384;
 
-/// The numbers of the blocks that are there, the most recently used first, and how many there may be.
+/// The numbers of the blocks that are there, the most recently used first, and the most that there may be.
 #[derive(Drop)]
 pub struct Model {
     numbers: Vec<u64>,
@@ -39,7 +39,7 @@ impl Model {
         Ok(())
     }
 
-    /// Puts a block at the front, where it isn't there; the last one leaves a full list.
+    /// Puts a block at the front, where it isn't there. The last one leaves a full list. Returns how many blocks were stored.
     fn store(&mut self, n: u64) -> Result<u32, AllocError> {
         if self.has(n) {
             return Ok(0);
@@ -51,7 +51,7 @@ impl Model {
         Ok(1)
     }
 
-    /// Puts each block that a piece brings, and says how many were stored.
+    /// Puts each block that a piece brings. Returns how many were stored.
     pub fn put(
         &mut self,
         complete: u64,
@@ -74,7 +74,7 @@ impl Model {
         Ok(count)
     }
 
-    /// Brings the blocks of a range to the front, and gives the first and last byte that is missing.
+    /// Brings the blocks of a range to the front. Returns the first and the last byte that is missing.
     pub fn read(
         &mut self,
         complete: u64,

@@ -1,16 +1,16 @@
-//! A file of which each byte is known, and pieces of it.
+//! A file whose bytes are all known, and pieces of it.
 ghost use Rattle.std.specs.Prelude.{◌≡◌, ◌+◌, ◌<◌, ◌≤◌, ◌^◌, IfOk, vec_len, length};
 
 use range_cache::{Cache, Missing, law_pieces_bring_blocks, law_stores_are_counted};
 use std::alloc::{AllocError, Global};
 use tiff_dir::{Memory, Span};
 
-/// The byte at a place: neighbours differ, and so do the same places of neighbouring blocks.
+/// Returns the byte at a place. Neighbours differ, and so do the same places of neighbouring blocks.
 fn byte_at(place: u64) -> u8 {
     (place % 251) as u8 ^ (place / 16384 % 256) as u8
 }
 
-/// The bytes from a place on.
+/// Returns the `len` bytes from `first` on.
 pub fn piece(alloc: Global, first: u64, len: usize) -> Result<Vec<u8>, AllocError>
     requires { first + len < 2 ^ 63 }
     ensures { IfOk result (λ v. vec_len v ≡ len) }
@@ -38,7 +38,7 @@ pub fn put(
     cache.put(complete, first, bytes, wanted)
 }
 
-/// Reads the bytes from a place on where the cache has them all, and else says what is missing.
+/// Reads the bytes from `first` on where the cache has them all. Otherwise returns what is missing.
 pub fn read(cache: &mut Cache, complete: u64, first: u64, out: &mut [u8]) -> Result<(), Missing>
     requires some { 0 < length out.old }
     requires within { first + length out.old ≤ complete }

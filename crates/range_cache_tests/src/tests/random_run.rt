@@ -10,7 +10,7 @@ use std::process::Abort;
 use std::test::Fail;
 use tiff_dir::Span;
 
-/// The next number below `n`.
+/// Returns the next number below `n`.
 fn below(numbers: &mut Numbers, n: u64) -> u64
     requires { 0 < n }
     ensures { result < n }
@@ -18,7 +18,7 @@ fn below(numbers: &mut Numbers, n: u64) -> u64
     numbers.below(n as usize) as u64
 }
 
-/// A cache, the rules, and the length of the file that both hold blocks of.
+/// A cache, the rules, and the length of the file whose blocks both hold.
 #[derive(Drop)]
 struct Trial {
     cache: Cache,
@@ -29,7 +29,7 @@ struct Trial {
 }
 
 impl Trial {
-    /// A piece of up to 66 blocks, of which a part is wanted.
+    /// Puts a piece of up to 66 blocks, of which a part is wanted.
     fn put<R: Abort + AllocGlobal>(&mut self, rt: &R) -> Result<(), Fail> {
         let complete = self.complete;
         let first = below(&mut self.numbers, complete);
@@ -48,7 +48,7 @@ impl Trial {
         Ok(())
     }
 
-    /// A range of up to 1,048,576 bytes.
+    /// Reads a range of up to 1,048,576 bytes.
     fn read<R: Abort + AllocGlobal>(&mut self, rt: &R) -> Result<(), Fail> {
         let complete = self.complete;
         let first = below(&mut self.numbers, complete);
@@ -72,7 +72,7 @@ impl Trial {
         Ok(())
     }
 
-    /// Either of the two.
+    /// Puts a piece or reads a range, at random.
     fn call<R: Abort + AllocGlobal>(&mut self, rt: &R) -> Result<(), Fail> {
         if below(&mut self.numbers, 2) == 0 {
             self.put(rt)
@@ -86,7 +86,7 @@ impl Trial {
         self.model.clear();
     }
 
-    /// Whether both have the same blocks.
+    /// Expects that both have the same blocks.
     fn compare<R: Abort>(&self, rt: &R) {
         let whole = Span {
             first: 0,
@@ -100,7 +100,7 @@ impl Trial {
     }
 }
 
-/// So many calls at a capacity.
+/// Makes `calls` calls with a cache of `blocks` blocks.
 fn run<R: Abort + AllocGlobal>(rt: &R, blocks: u32, complete: u64, calls: u32) -> Result<(), Fail>
     requires { (16384 < complete) × (complete < 2 ^ 32) }
 {

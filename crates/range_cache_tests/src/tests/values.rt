@@ -24,7 +24,8 @@ fn takes_66_to_4096_blocks(rt: HostRuntime) {
     }
 }
 
-/// First byte and length of a piece, first and last byte that are wanted, and how many blocks are stored.
+/// A row has the first byte and the length of a piece, and the first and the last byte that are wanted. Then comes how many blocks are
+/// stored.
 const PIECES: [(u64, usize, u64, u64, u32); 12] = [
     (65536, 2170, 65536, 67705, 1),
     (65536, 2169, 65536, 67705, 0),
@@ -190,7 +191,7 @@ fn wants_no_block_at_the_end(rt: HostRuntime) -> Result<(), Fail> {
     Ok(())
 }
 
-/// First byte and length of a range, and whether blocks 0 and 2 have it.
+/// A row has the first byte and the length of a range, and whether blocks 0 and 2 have it.
 const COPIES: [(u64, usize, bool); 10] = [
     (0, 1, true),
     (0, 16384, true),

@@ -1,4 +1,4 @@
-//! A walk over a file, beside the plain program's answers.
+//! A walk over a file, beside the results of the plain program.
 use assertion_support::expect_eq;
 use faults_support::faults_of_directories;
 use reference_support::{
@@ -8,7 +8,7 @@ use std::process::Abort;
 use std::test::Fail;
 use tiff_dir::{Level, Span};
 
-/// The level as the plain program describes one.
+/// Returns the level in the form of the plain program.
 fn plain_of(level: &Level) -> PlainLevel {
     PlainLevel {
         grid: Grid {
@@ -44,7 +44,7 @@ fn compare_levels<R: Abort + AllocGlobal>(
     Ok(())
 }
 
-/// Whether the walk took the first of the ranges that are needed, in their order.
+/// Returns whether the walk took the first of the ranges that are needed, in their order.
 fn are_first(taken: &[Span], needs: &[Extent]) -> bool {
     taken.len() <= needs.len()
         && taken
@@ -53,10 +53,10 @@ fn are_first(taken: &[Span], needs: &[Extent]) -> bool {
             .all(|(span, range)| range.span() == Some(*span))
 }
 
-/// Compares a walk over the file with the plain program: it takes ranges that are needed, in their order; where it ends it
-/// took all and has the plain program's levels, and no fault of the directories stands; where it refuses, its fault is one of
-/// those that stand. Whether the walk ended.
-/// A failure tells the file's name.
+/// Compares a walk over the file with the plain program. Returns whether the walk ended. A failure prints the file's name.
+///
+/// The walk takes ranges that are needed, in their order. Where it ends, it took all of them and has the plain program's levels, and no
+/// fault of the directories stands. Where it refuses, its fault is one of those that stand.
 pub fn compare<R: Abort + AllocGlobal>(rt: &R, file: &[u8], name: &str) -> Result<bool, Fail> {
     let needs = needs_of_directories(rt.alloc(), file)?;
     let faults = faults_of_directories(rt.alloc(), file)?;

@@ -1,13 +1,13 @@
-//! The fixtures byte by byte, as their tables say.
+//! The fixtures byte by byte, from their tables of bytes.
 use assertion_support::expect_eq;
 use fixtures_support::{f1, f1m, f2, f2b, f3, f4, f5, f6, f6m};
 use std::process::Abort;
 use std::test::Fail;
 
-/// Some bytes of a file, and where they stand.
+/// The place of some bytes in a file, and the bytes.
 type Part = (usize, &'static [u8]);
 
-/// Whether these bytes stand in the file from `at` on.
+/// Returns whether these bytes stand in the file from `at` on.
 fn stands(file: &[u8], at: usize, bytes: &[u8]) -> bool {
     match file.get(at..) {
         Some(rest) => rest.starts_with(bytes),
@@ -33,7 +33,7 @@ fn expect_run(rt: &impl Abort, file: &[u8], at: usize, len: usize, byte: u8) -> 
     Ok(())
 }
 
-/// Expects every byte value once from 122 on, in order.
+/// Expects each byte value once from 122 on, in order.
 fn expect_ramp(rt: &impl Abort, file: &[u8]) -> Result<(), Fail> {
     for sample in 0..=255u8 {
         expect_eq!(rt; file.get(122 + usize::from(sample)).copied(), Some(sample));
@@ -41,7 +41,7 @@ fn expect_ramp(rt: &impl Abort, file: &[u8]) -> Result<(), Fail> {
     Ok(())
 }
 
-/// The parts of f1 that its table names.
+/// The parts of f1 from its table.
 const OF_F1: [Part; 14] = [
     (0, b"\x49\x49\x2a\x00\x08\x00\x00\x00"),
     (8, b"\x09\x00"),
@@ -66,7 +66,7 @@ fn f1_has_the_bytes_of_its_table(rt: HostRuntime) -> Result<(), Fail> {
     expect_ramp(&rt, &file)
 }
 
-/// The parts of f1m that its table names.
+/// The parts of f1m from its table.
 const OF_F1M: [Part; 14] = [
     (0, b"\x4d\x4d\x00\x2a\x00\x00\x00\x08"),
     (8, b"\x00\x09"),
@@ -91,7 +91,7 @@ fn f1m_has_its_numbers_most_significant_byte_first(rt: HostRuntime) -> Result<()
     expect_ramp(&rt, &file)
 }
 
-/// The parts of f2 and f2b that stand before their tiles.
+/// The parts of f2 and f2b before their tiles.
 const MANY: [Part; 16] = [
     (0, b"\x49\x49\x2a\x00\x08\x00\x00\x00"),
     (8, b"\x09\x00"),
@@ -111,7 +111,7 @@ const MANY: [Part; 16] = [
     (2166, b"\x00\x01\x00\x00"),
 ];
 
-/// Expects MANY, these other parts, and a tile of 256 equal bytes for each value, from 0 up or from 255 down.
+/// Expects `MANY`, these other parts, and a tile of 256 equal bytes for each value, from 0 up or from 255 down.
 fn expect_many(rt: &impl Abort, file: &[u8], others: &[Part], is_turned: bool) -> Result<(), Fail> {
     expect(rt, file, 67706, &MANY)?;
     expect(rt, file, 67706, others)?;
@@ -130,7 +130,7 @@ fn f2_and_f2b_have_the_bytes_of_their_tables(rt: HostRuntime) -> Result<(), Fail
     expect_many(&rt, &f2b(rt.alloc())?, &ends, true)
 }
 
-/// The parts of f3 that its table names.
+/// The parts of f3 from its table.
 const OF_F3: [Part; 42] = [
     (0, b"\x49\x49\x2a\x00\x08\x00\x00\x00"),
     (8, b"\x0d\x00"),
@@ -195,7 +195,7 @@ fn f3_has_the_bytes_of_its_table(rt: HostRuntime) -> Result<(), Fail> {
     expect_even_rows(&rt, &file)
 }
 
-/// The parts of f4 that its table names.
+/// The parts of f4 from its table.
 const OF_F4: [Part; 18] = [
     (0, b"\x49\x49\x2a\x00\x08\x00\x00\x00"),
     (8, b"\x0a\x00"),
@@ -233,7 +233,7 @@ fn f4_has_the_bytes_of_its_table(rt: HostRuntime) -> Result<(), Fail> {
     Ok(())
 }
 
-/// The parts of f5 that its table names.
+/// The parts of f5 from its table.
 const OF_F5: [Part; 12] = [
     (0, b"\x49\x49\x2a\x00\x08\x00\x00\x00"),
     (8, b"\x09\x00"),
@@ -269,7 +269,7 @@ fn f5_has_the_bytes_of_its_table(rt: HostRuntime) -> Result<(), Fail> {
     expect_run(&rt, &file, 282, 16384 - 282, 0)
 }
 
-/// The parts of f6 that its table names.
+/// The parts of f6 from its table.
 const OF_F6: [Part; 12] = [
     (0, b"\x49\x49\x2a\x00\x08\x00\x00\x00"),
     (
@@ -288,7 +288,7 @@ const OF_F6: [Part; 12] = [
     (632, b"\xff\x80"),
 ];
 
-/// The parts of f6m that its table names.
+/// The parts of f6m from its table.
 const OF_F6M: [Part; 12] = [
     (0, b"\x4d\x4d\x00\x2a\x00\x00\x00\x08"),
     (
@@ -307,7 +307,7 @@ const OF_F6M: [Part; 12] = [
     (632, b"\x80\xff"),
 ];
 
-/// Expects each sample from 32,768 up to 33,023, least or most significant byte first.
+/// Expects each sample from 32,768 up to 33,023, with the least or the most significant byte first.
 fn expect_wide_ramp(rt: &impl Abort, file: &[u8], is_big: bool) -> Result<(), Fail> {
     for sample in 0..=255u8 {
         let at = 122 + 2 * usize::from(sample);

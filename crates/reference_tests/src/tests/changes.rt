@@ -1,10 +1,10 @@
-//! Fixtures in which one to three bytes are changed.
+//! Fixtures with one to three changed bytes.
 use super::beside::compare;
 use fixtures_support::{Numbers, f1, f1m, f3, f4, f6, f6m};
 use std::process::Abort;
 use std::test::Fail;
 
-/// So many files, each with one to three bytes of the fixture's first 400 changed: how many walks ended.
+/// Compares walks over `files` files, each with one to three of the fixture's first 400 bytes changed. Returns how many walks ended.
 fn compare_changed<R: Abort + AllocGlobal>(
     rt: &R,
     fixture: &[u8],
@@ -29,7 +29,7 @@ fn compare_changed<R: Abort + AllocGlobal>(
     Ok(ended)
 }
 
-/// Expects that of so many walks over changed files some end, and some don't.
+/// Expects that of the walks over `files` changed files some end, and some don't.
 fn expect_both<R: Abort + AllocGlobal>(
     rt: &R,
     fixture: &[u8],

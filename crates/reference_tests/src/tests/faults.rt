@@ -1,4 +1,4 @@
-//! The plain program's faults: of the fixtures none, of fixtures in which bytes are changed all that stand by the definitions.
+//! The plain program's faults. The fixtures have none. Fixtures with changed bytes have all that stand by the definitions.
 use faults_support::faults;
 use fixtures_support::{f1, f1m, f2, f2b, f3, f4, f5, f6, f6m};
 use std::alloc::{AllocError, Global};
@@ -30,7 +30,8 @@ fn query_of(asked: Asked) -> Query {
     }
 }
 
-/// What a row says, bytes that are put at a place of the file, a query, and all faults that stand, in any order.
+/// A row has what it shows, a place in the file, and the bytes that are put there. Then come a query, and all faults that stand, in any
+/// order.
 type Row = (
     &'static str,
     usize,
@@ -88,7 +89,7 @@ const OF_F3: [Row; 16] = [
     ("a second level of another type", 172, &[0xfe, 0x00, 0x03], PIXEL, &[FieldType(254)]),
 ];
 
-/// What a row says, bytes that are put at places of the file, a query, and all faults that stand, in any order.
+/// A row has what it shows, bytes that are put at places in the file, a query, and all faults that stand, in any order.
 type Changed = (
     &'static str,
     &'static [(usize, &'static [u8])],
@@ -105,7 +106,7 @@ const SIDE_BY_SIDE_IN_F3: [Changed; 5] = [
     ("byte counts of tiles past the end", &[(114, &[0xff; 4])], PIXEL, &[PastEnd]),
 ];
 
-/// All samples of f4, whose first tile is at 164.
+/// The query of all samples of f4, whose first tile is at 164.
 const ALL_OF_F4: Asked = Some((0, 0, 20, 18, 0));
 
 #[rattlefmt::skip]
@@ -116,12 +117,12 @@ const SIDE_BY_SIDE_IN_F4: [Changed; 4] = [
     ("byte count 0 of a tile that the window has not", &[(158, &[0, 0])], PIXEL, &[]),
 ];
 
-/// Whether the faults that were found are these.
+/// Returns whether the faults that were found are these.
 fn are_faults(found: &[FileFault], want: &[FileFault]) -> bool {
     found.len() == want.len() && want.iter().all(|fault| found.contains(fault))
 }
 
-/// A file with other bytes at some places.
+/// Returns a file with other bytes at some places.
 fn changed(
     alloc: Global,
     fixture: &[u8],
@@ -150,7 +151,7 @@ fn expect_faults<R: Abort + AllocGlobal>(
     Ok(())
 }
 
-/// Expects the faults of each row, of a file with the row's bytes.
+/// Expects the faults of each row for a file with the row's bytes.
 fn expect_rows<R: Abort + AllocGlobal>(rt: &R, fixture: &[u8], rows: &[Row]) -> Result<(), Fail> {
     for (name, place, bytes, asked, want) in rows {
         let file = changed(rt.alloc(), fixture, &[(*place, *bytes)])?;
@@ -169,7 +170,7 @@ fn tells_all_faults_of_levels_and_keys(rt: HostRuntime) -> Result<(), Fail> {
     expect_rows(&rt, &f3(rt.alloc())?, &OF_F3)
 }
 
-/// Expects the faults of each row, of a file in which bytes are changed.
+/// Expects the faults of each row for a file with changed bytes.
 fn expect_changed<R: Abort + AllocGlobal>(
     rt: &R,
     fixture: &[u8],
@@ -213,7 +214,7 @@ fn tells_a_depth_of_12_alone(rt: HostRuntime) -> Result<(), Fail> {
     )
 }
 
-/// The count and the offset of its only key are past the end of the field.
+/// Expects two faults where the count and the offset of the only key are past the end of the field.
 #[test]
 fn tells_the_place_of_a_key_by_its_location(rt: HostRuntime) -> Result<(), Fail> {
     let fixture = f3(rt.alloc())?;
@@ -226,11 +227,11 @@ fn tells_the_place_of_a_key_by_its_location(rt: HostRuntime) -> Result<(), Fail>
     expect_faults(&rt, name, &file, Query::Info, &[KeyHead, KeyPlace])
 }
 
-/// Where a sample of each column and row of a large level is asked for, and where no column is.
+/// Expects the faults of two queries of the whole of a large level: by its number, and by no columns.
 #[test]
 fn tells_no_rectangle_of_no_columns(rt: HostRuntime) -> Result<(), Fail> {
     let fixture = f5(rt.alloc())?;
-    // 4096 by 4096 samples in 16 tiles of 1024 by 1024.
+    // The level has 4096 by 4096 samples in 16 tiles of 1024 by 1024.
     let sides = [(18, &[0, 16][..]), (30, &[0, 16][..])];
     let tiles = [(78, &[0, 4][..]), (90, &[0, 4][..])];
     let arrays = [(98, &[16][..]), (110, &[16][..])];
@@ -254,7 +255,7 @@ fn tells_no_rectangle_of_no_columns(rt: HostRuntime) -> Result<(), Fail> {
     expect_faults(&rt, "no column", &file, whole(Pick::Columns(0)), &[Outside])
 }
 
-/// Expects that no fault stands of a fixture.
+/// Expects that a fixture has no fault.
 fn expect_none<R: Abort + AllocGlobal>(
     rt: &R,
     name: &str,

@@ -4,7 +4,7 @@ use fixtures_support::{f1, f1m, f2, f2b, f3, f4, f5, f6, f6m};
 use std::process::Abort;
 use std::test::Fail;
 
-/// The file, and each front of it of up to 400 bytes.
+/// Compares the walks over the file, and over each front of it of up to 400 bytes.
 fn compare_fronts<R: Abort + AllocGlobal>(rt: &R, file: &[u8]) -> Result<(), Fail> {
     assert!(rt;
         compare(rt, file, "the whole file")?,

@@ -1,4 +1,4 @@
-//! Values in the bytes that are known of a file, beside the plain program's.
+//! Values in the known bytes of a file, beside the plain program's.
 ghost use Rattle.std.specs.Prelude.{◌≡◌, ◌+◌, nat_le, length, min};
 
 use assertion_support::expect_eq;
@@ -31,15 +31,15 @@ impl KnownBytes for Front<'_> {
     }
 }
 
-/// Tags of fields that are there in some file, and of one that is in none.
+/// Tags of fields that some file has, and one that none has.
 const TAGS: [u16; 16] = [
     254, 256, 257, 258, 259, 262, 277, 284, 322, 324, 325, 339, 33550, 33922, 34735, 42113,
 ];
 
-/// Values of a field that are compared.
+/// The numbers of the values of a field that are compared.
 const INDICES: [u32; 4] = [0, 2, 15, u32::MAX];
 
-/// Returns the first directory, tag and index at which the value of the whole file isn't the plain program's.
+/// Returns the first directory, tag and index where the value of the whole file isn't the plain program's.
 fn first_difference(file: &[u8]) -> Option<(u16, u16, u32)> {
     for directory in 0u16..3 {
         for tag in TAGS {
@@ -54,7 +54,7 @@ fn first_difference(file: &[u8]) -> Option<(u16, u16, u32)> {
     None
 }
 
-/// Returns the first front, by its number of bytes, and the tag at which what is known isn't the plain program's value.
+/// Returns the first front, by its number of bytes, and the tag where the known value isn't the plain program's.
 fn first_false_front(file: &[u8]) -> Option<(usize, u16)> {
     for known in (0..file.len().min(400)).step_by(13) {
         let front = Front { file, known };
@@ -68,7 +68,7 @@ fn first_false_front(file: &[u8]) -> Option<(usize, u16)> {
     None
 }
 
-/// Files, and how many directories each has.
+/// Expects the plain program's values in files, and the number of directories of each.
 #[test]
 fn reads_values_of_known_bytes(rt: HostRuntime) -> Result<(), Fail> {
     let alloc = rt.alloc();
@@ -90,7 +90,7 @@ fn reads_values_of_known_bytes(rt: HostRuntime) -> Result<(), Fail> {
     Ok(())
 }
 
-/// The directories of f3, by how many of its bytes are known.
+/// Expects the number of directories of f3, for each number of its known bytes.
 #[test]
 fn counts_directories_that_are_known(rt: HostRuntime) -> Result<(), Fail> {
     let file = f3(rt.alloc())?;

@@ -69,10 +69,10 @@ fn expect_tiles(
     Ok(())
 }
 
-/// What f1 and f1m are read for, whatever is asked of their tile.
+/// The ranges that are read of f1 and f1m, whatever is asked of their tile.
 const OF_ONE_TILE: [(u64, u64); 6] = [(0, 8), (8, 2), (10, 112), (102, 4), (114, 4), (122, 256)];
 
-/// What f2 is read for, where its last tile is asked for, or all of them.
+/// The ranges that are read of f2, where its last tile is asked for, or all of them.
 const OF_LAST_TILE: [(u64, u64); 6] = [
     (0, 8),
     (8, 2),
@@ -91,7 +91,7 @@ const OF_ALL_TILES: [(u64, u64); 6] = [
     (2170, 65536),
 ];
 
-/// What f3 is read for, where four tiles of its first level are asked for, or the tile of its second.
+/// The ranges that are read of f3, where four tiles of its first level are asked for, or the tile of its second.
 const OF_FIRST_LEVEL: [(u64, u64); 8] = [
     (0, 8),
     (8, 2),
@@ -114,7 +114,7 @@ const OF_SECOND_LEVEL: [(u64, u64); 8] = [
     (1424, 32),
 ];
 
-/// A file of one tile with compression 5.
+/// Returns a file of one tile with compression 5.
 fn compressed(alloc: Global) -> Result<Vec<u8>, Fail> {
     let mut file = f1(alloc)?;
     if let Some(byte) = file.get_mut(54) {
@@ -123,7 +123,7 @@ fn compressed(alloc: Global) -> Result<Vec<u8>, Fail> {
     Ok(file)
 }
 
-/// Expects what f3 is read for, by windows and by its directories alone.
+/// Expects the ranges that are read of f3, by windows and by its directories alone.
 fn expect_needs_of_levels(rt: &impl Abort, alloc: Global, file: &[u8]) -> Result<(), Fail> {
     expect_needs(rt, alloc, file, window(15, 15, 2, 2, 0), &OF_FIRST_LEVEL, 8)?;
     expect_needs(rt, alloc, file, window(0, 0, 1, 1, 1), &OF_SECOND_LEVEL, 8)?;
@@ -156,7 +156,7 @@ fn expect_outside(rt: &impl Abort, alloc: Global, file: &[u8], query: Query) -> 
     expect_needs(rt, alloc, file, query, &OF_ONE_TILE[..3], 3)
 }
 
-/// Expects of f1 that its whole isn't refused, and which windows are too large.
+/// Expects that the whole of f1 isn't refused, and which windows are too large.
 fn expect_sizes(rt: &impl Abort, alloc: Global, file: &[u8]) -> Result<(), Fail> {
     let whole = window(0, 0, 16, 16, 0);
     let told = (
@@ -220,7 +220,7 @@ fn expect_rectangle(
     Ok(())
 }
 
-/// Expects that f3 is asked for these rectangles, of which those of the first level aren't refused.
+/// Expects that queries ask for these rectangles of f3. Those of the first level aren't refused.
 fn expect_rectangles(rt: &impl Abort, alloc: Global, file: &[u8]) -> Result<(), Fail> {
     let rows = [
         (window(5, 6, 7, 8, 1), 1, [5, 6, 7, 8]),

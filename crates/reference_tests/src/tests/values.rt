@@ -20,7 +20,7 @@ fn at(first: u64, len: u64, count: u32) -> Place {
     }
 }
 
-/// A level of tiles of 16 by 16.
+/// Makes a level with tiles of 16 by 16.
 fn level(side: u32, compression: Compression, offsets: Place, counts: Place) -> Level {
     Level {
         grid: Grid {
@@ -37,7 +37,7 @@ fn level(side: u32, compression: Compression, offsets: Place, counts: Place) -> 
     }
 }
 
-/// A sample by its level, its column, its row and which of its pixel it is, and what it is.
+/// A row has the level, the column and the row of a pixel, the number of a sample in it, and its value.
 type Sample = ((u32, u32, u32, u16), Option<u64>);
 
 /// Expects these samples of a file.
@@ -67,7 +67,7 @@ fn reads_single_samples(rt: HostRuntime) -> Result<(), Fail> {
     expect_samples(&rt, &f6(alloc)?, &[((0, 1, 1, 0), Some(32785))])
 }
 
-/// A file of two levels, of which a tile of the second is damaged.
+/// Returns a file of two levels, in which a tile of the second is damaged.
 fn damaged(alloc: Global) -> Result<Vec<u8>, Fail> {
     let mut file = f3(alloc)?;
     match file.get_mut(1454) {
@@ -121,7 +121,7 @@ fn describes_each_level(rt: HostRuntime) -> Result<(), Fail> {
     Ok(())
 }
 
-/// Values of fields of f3: directory, field, which value, and what it is.
+/// Rows of values of fields of f3: the directory, the field, the number of the value, and the value.
 const VALUES: [(u32, u16, u64, Option<u64>); 15] = [
     (0, 324, 0, Some(400)),
     (0, 324, 3, Some(1168)),
@@ -172,7 +172,7 @@ fn unpacks_the_example_of_the_standard(rt: HostRuntime) -> Result<(), Fail> {
     Ok(())
 }
 
-/// The first `len` bytes, or all.
+/// Returns the first `len` bytes, or all.
 fn front(file: &[u8], len: usize) -> &[u8] {
     file.get(..len).unwrap_or(file)
 }
@@ -198,7 +198,7 @@ const KEYS: [u64; 16] = [
     1, 1, 0, 3, 1024, 0, 1, 2, 1026, 34737, 7, 0, 2057, 34736, 1, 0,
 ];
 
-/// The fields of f3 that tell where it lies, and one that it lacks.
+/// The fields of f3 that say where it lies, and one that it lacks.
 const PLACING: [(u16, Option<&[u64]>); 5] = [
     (34735, Some(&KEYS)),
     (34736, Some(&[0x0102_0304_0506_0708])),
@@ -228,8 +228,8 @@ fn reads_what_info_tells(rt: HostRuntime) -> Result<(), Fail> {
     Ok(())
 }
 
-/// Samples that are equal in cells of so many columns and rows, and rise from `first` on from cell to cell, of which
-/// `across` stand side by side.
+/// Samples that are equal in cells of `columns` columns and `rows` rows. They rise from `first` on from cell to cell. There are `across`
+/// cells side by side.
 #[derive(Clone, Copy)]
 struct Cells {
     first: u64,
@@ -239,14 +239,14 @@ struct Cells {
 }
 
 impl Cells {
-    /// The sample in column `x` and row `y`.
+    /// Returns the sample in column `x` and row `y`.
     fn sample(&self, x: u16, y: u16) -> Option<u64> {
         let (column, row) = (x.checked_div(self.columns)?, y.checked_div(self.rows)?);
         self.first.checked_add(u64::from(row) * u64::from(self.across) + u64::from(column))
     }
 }
 
-/// Expects row `y` of the cells, which has so many samples.
+/// Expects row `y` of the cells, which has `width` samples.
 fn expect_row<R: Abort>(
     rt: &R,
     row: &[u64],

@@ -8,7 +8,7 @@ use std::test::Fail;
 use tiff_dir::Memory;
 use world::Event;
 
-/// A tile of f2 by two exchanges. Its report is not in the table.
+/// A tile of f2 in two exchanges. Its report isn't in the table.
 #[rattlefmt::skip]
 pub const TWO_EXCHANGES: Steps = &[
     ("open 0 level 0 240 240 16 16", "opened 0"),
@@ -37,7 +37,7 @@ const RESTARTED_BETWEEN: Steps = &[
     ("exchange 0", "asked 0 65536-67705 \"2-1\" answer 2 206 2170 took 1"),
 ];
 
-/// A client that forgets what it has, and one that is not there.
+/// A client that forgets what it has, and one that isn't there.
 #[rattlefmt::skip]
 const FORGETTING: Steps = &[
     ("open 0 level 0 240 240 16 16", "opened 0"),
@@ -63,21 +63,21 @@ pub const LEVELS: Steps = &[
     ("exchange 0", "asked 0 nothing\nreport 0 \"1-1\" window 2 1 1 0000"),
 ];
 
-/// A window of f4, of three samples to a pixel.
+/// A window of f4, with three samples to a pixel.
 #[rattlefmt::skip]
 const THREE_SAMPLES: Steps = &[
     ("open 0 level 0 15 15 3 3", "opened 0"),
     ("exchange 0", "asked 0 0-65535 - answer 0 206 548 took 1\nreport 0 \"1-1\" window 3 3 3 8080800f01ff8080808080800003ff8080808080800103ff808080"),
 ];
 
-/// A window of f6, of samples of 16 bits.
+/// A window of f6, with samples of 16 bits.
 #[rattlefmt::skip]
 const SIXTEEN_BITS: Steps = &[
     ("open 0 level 0 2 1 3 2", "opened 0"),
     ("exchange 0", "asked 0 0-65535 - answer 0 206 634 took 1\nreport 0 \"1-1\" window 3 2 1 801280138014802280238024"),
 ];
 
-/// The whole of f5: its directory with the first tile, and two groups of tiles. Its report is not in the table.
+/// The whole of f5: its directory with the first tile, and two groups of tiles. Its report isn't in the table.
 #[rattlefmt::skip]
 const THREE_EXCHANGES: Steps = &[
     ("open 0 level 0 0 0 1280 1024", "opened 0"),
@@ -86,14 +86,14 @@ const THREE_EXCHANGES: Steps = &[
     ("exchange 0", "asked 0 1064960-1327103 \"1-1\" answer 2 206 262144 took 16"),
 ];
 
-/// A pixel of tile 3 after that. The last 66 blocks are there, so that two of the tile's four have left.
+/// A pixel of tile 3 after that. The last 66 blocks are there, so two of the tile's four have left.
 #[rattlefmt::skip]
 const BLOCKS_THAT_LEFT: Steps = &[
     ("open 0 level 0 768 0 1 1", "opened 0"),
     ("exchange 0", "asked 0 212992-245759 \"1-1\" answer 3 206 32768 took 2\nreport 0 \"1-1\" window 1 1 1 03"),
 ];
 
-/// Appends the digits of 256 samples that are alike.
+/// Appends the digits of 256 equal samples.
 fn push_digits(alloc: Global, digits: &mut String, sample: u32) -> Result<(), Memory> {
     let pair = format!(in alloc; "{sample:02x}")?;
     for _ in 0..256 {
@@ -102,7 +102,7 @@ fn push_digits(alloc: Global, digits: &mut String, sample: u32) -> Result<(), Me
     Ok(())
 }
 
-/// The digits of the samples of f5. Each sample of tile t is t.
+/// Returns the digits of the samples of f5. Each sample of tile t is t.
 fn digits_of_f5(alloc: Global) -> Result<String, Memory> {
     let mut digits = String::new(alloc);
     for run in 0..5120u32 {
@@ -111,7 +111,7 @@ fn digits_of_f5(alloc: Global) -> Result<String, Memory> {
     Ok(digits)
 }
 
-/// The texts of a script that reads the whole of f5 and then a pixel, and of its log.
+/// Returns the texts of a script that reads the whole of f5 and then a pixel, and of its log.
 fn texts_of_f5(alloc: Global) -> Result<(String, String), Memory> {
     let (script, log) = texts_after(alloc, "f5.tif", THREE_EXCHANGES)?;
     let (script_after, log_after) = texts_of(alloc, BLOCKS_THAT_LEFT)?;
@@ -126,14 +126,14 @@ fn texts_of_f5(alloc: Global) -> Result<(String, String), Memory> {
     Ok((script, log))
 }
 
-/// The file f5, under its name.
+/// Returns the file f5, under its name.
 fn file_f5(alloc: Global) -> Result<Loaded, Memory> {
     let mut files = Loaded::new(alloc);
     files.add(b"f5.tif", f5(alloc)?)?;
     Ok(files)
 }
 
-/// The events of a script of f5.
+/// Returns the events of a script of f5.
 fn events_of_f5(alloc: Global, text: &str) -> Result<Vec<Event>, ScriptError> {
     let Ok(mut files) = file_f5(alloc) else {
         return Err(ScriptError::Memory);
@@ -141,8 +141,8 @@ fn events_of_f5(alloc: Global, text: &str) -> Result<Vec<Event>, ScriptError> {
     script(alloc, text.as_bytes(), &mut files)
 }
 
-/// The texts of a script of f2 and of its log, at whose end the last tile of f2 or f2b is reported. All bytes of the tile have
-/// two equal digits.
+/// Returns the texts of a script of f2 and of its log, at whose end the last tile of f2 or f2b is reported. All bytes of the tile have two
+/// equal digits.
 pub fn tile_texts(
     alloc: Global,
     steps: Steps,

@@ -18,7 +18,7 @@ const QUERY: Query = Query::Window {
     pick: Pick::Level(2),
 };
 
-/// An entry without a report.
+/// Makes an entry without a report.
 fn quiet(effect: Effect) -> Entry {
     Entry {
         effect,
@@ -26,7 +26,7 @@ fn quiet(effect: Effect) -> Entry {
     }
 }
 
-/// An entry of an opening, with the report of this outcome.
+/// Makes an entry of an opening, with the report of this outcome.
 fn opened(client: u32, outcome: Outcome) -> Entry {
     Entry {
         effect: Effect::Opened(client),
@@ -38,7 +38,7 @@ fn opened(client: u32, outcome: Outcome) -> Entry {
     }
 }
 
-/// An answer without a text, of this status and so many bytes of body.
+/// Makes an answer without a text. It has this status, and a body of `body` bytes.
 fn answer(alloc: Global, status: u16, body: u64) -> Answer {
     Answer {
         text: Vec::new(alloc),
@@ -49,7 +49,7 @@ fn answer(alloc: Global, status: u16, body: u64) -> Answer {
     }
 }
 
-/// A request of client 4, whose answer has number 5, status 206 and two bytes of body.
+/// Makes a request of client 4, whose answer has number 5, status 206 and two bytes of body.
 fn asked(alloc: Global, tag: Option<Tag>) -> AnsweredRequest {
     AnsweredRequest {
         client: 4,
@@ -64,7 +64,7 @@ fn asked(alloc: Global, tag: Option<Tag>) -> AnsweredRequest {
     }
 }
 
-/// A check of client 6, whose answer has number 8 and status 304.
+/// Makes a check of client 6, whose answer has number 8 and status 304.
 fn checked(alloc: Global, current: Current) -> Effect {
     Effect::Checked(AnsweredCheck {
         client: 6,
@@ -76,7 +76,7 @@ fn checked(alloc: Global, current: Current) -> Effect {
     })
 }
 
-/// The text of a log of one entry.
+/// Returns the text of a log of one entry.
 fn text_of(alloc: Global, entry: Entry) -> Result<Vec<u8>, Fail> {
     let mut log = Log::new(alloc);
     log.entries.push(entry)?;
@@ -162,7 +162,7 @@ fn writes_the_number_and_status_of_an_answer(rt: HostRuntime) -> Result<(), Fail
     expect_checked(&rt, other, "checked 6 \"1-2\" answer 8 304 0 unknown 3\n")
 }
 
-/// What is told of a delivery.
+/// A row has a delivery, and its text in the log.
 const DELIVERED: [(Delivered, &str); 8] = [
     (Delivered::Took(4), "took 4"),
     (Delivered::Restarted, "restarted"),
@@ -180,7 +180,7 @@ const DELIVERED: [(Delivered, &str); 8] = [
     ),
 ];
 
-/// Expects what is told of an exchange, and of a front of an answer, that this came of.
+/// Expects the text of a delivery after an exchange, and after a front of an answer.
 fn expect_delivered(
     rt: &(impl Abort + AllocGlobal),
     (delivered, want): (Delivered, &str),
@@ -202,7 +202,7 @@ fn writes_what_came_of_a_delivery(rt: HostRuntime) -> Result<(), Fail> {
     Ok(())
 }
 
-/// Faults, and what is told of them.
+/// A row has a fault, and its text in the log.
 const FAULTS: [(FileFault, &str); 8] = [
     (FileFault::Header, "fault 1\n"),
     (FileFault::PastEnd, "fault 2\n"),
@@ -214,7 +214,7 @@ const FAULTS: [(FileFault, &str); 8] = [
     (FileFault::KeyPlace, "fault 18\n"),
 ];
 
-/// Expects what is told of a fault, behind the 24 bytes of its entry and its tag.
+/// Expects the text of a fault, after the 24 bytes of its entry and its tag.
 fn expect_fault(
     rt: &(impl Abort + AllocGlobal),
     (fault, want): (FileFault, &str),

@@ -1,5 +1,5 @@
-//! Wherever memory is refused once, `run` and `run_cut` tell so, and the log is a beginning of the whole one. Each test passes
-//! with ample memory, and wherever one allocation is refused.
+//! Wherever memory is refused once, `run` and `run_cut` report it, and the log is a beginning of the whole one. Each test passes with ample
+//! memory, and wherever one allocation is refused.
 use super::larger_files::{INFO, LEVELS, REPLACED_BETWEEN, TWO_EXCHANGES, tile_texts};
 use super::scripts_and_logs::ONE_WINDOW;
 use super::{events, texts_after};
@@ -22,7 +22,7 @@ enum Row {
 }
 
 impl Row {
-    /// The text of the row's script, and of its log.
+    /// Returns the text of the row's script, and that of its log.
     fn texts(self, alloc: Global) -> Result<(String, String), Memory> {
         match self {
             Row::OneWindow => texts_after(alloc, "f1.tif", ONE_WINDOW),
@@ -34,7 +34,7 @@ impl Row {
     }
 }
 
-/// The texts of a row, made again where memory was refused.
+/// Makes the texts of a row. Makes them again where memory was refused.
 fn texts_again(alloc: Global, row: Row) -> Result<(String, String), Memory> {
     match row.texts(alloc) {
         Err(Memory) => row.texts(alloc),
@@ -42,7 +42,7 @@ fn texts_again(alloc: Global, row: Row) -> Result<(String, String), Memory> {
     }
 }
 
-/// The events of a script, read again where memory was refused.
+/// Reads the events of a script. Reads them again where memory was refused.
 fn events_again(alloc: Global, script: &str) -> Result<Vec<Event>, ScriptError> {
     match events(alloc, script) {
         Err(ScriptError::Memory) => events(alloc, script),
@@ -50,7 +50,7 @@ fn events_again(alloc: Global, script: &str) -> Result<Vec<Event>, ScriptError> 
     }
 }
 
-/// The text of a log, written again where memory was refused.
+/// Writes the text of a log. Writes it again where memory was refused.
 fn log_text_again(alloc: Global, log: &Log) -> Result<Vec<u8>, Memory> {
     match log_text(alloc, log) {
         Err(Memory) => log_text(alloc, log),
@@ -58,7 +58,7 @@ fn log_text_again(alloc: Global, log: &Log) -> Result<Vec<u8>, Memory> {
     }
 }
 
-/// Expects the whole log of a run that was Ok, and of one that met no memory a beginning that lacks an event.
+/// Expects the whole log of a run that was `Ok`. Of a run that ran out of memory, expects a beginning that lacks an event.
 fn expect_beginning(
     rt: &(impl Abort + AllocGlobal),
     ran: Result<(), Memory>,

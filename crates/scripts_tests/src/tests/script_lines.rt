@@ -1,4 +1,4 @@
-//! The events of the lines of a script, and the lines that are none.
+//! The events of the lines of a script, and the lines that are no events.
 use assertion_support::expect_eq;
 use scripts::{Loaded, ScriptError, script};
 use std::alloc::Global;
@@ -7,7 +7,7 @@ use std::test::Fail;
 use tiff_dir::{Pick, Query};
 use world::Event;
 
-/// The events of a script that may publish `data/f`, a file of four bytes.
+/// Returns the events of a script that may publish `data/f`, a file of four bytes.
 fn events(alloc: Global, text: &[u8]) -> Result<Vec<Event>, ScriptError> {
     let mut files = Loaded::new(alloc);
     let bytes = Vec::from_slice(alloc, b"FILE").map_err(|_| ScriptError::Memory)?;
@@ -33,27 +33,27 @@ const BY_COLUMNS: Query = Query::Window {
     pick: Pick::Columns(2),
 };
 
-/// Whether a part of answer 5 is delivered to client 6, up to this place or whole.
+/// Returns whether an event delivers a part of answer 5 to client 6, up to the place `want` or whole.
 fn is_delivery(event: &Event, want: Option<u32>) -> bool {
     matches!(event, Event::Deliver { client: 6, answer: 5, cut } if *cut == want)
 }
 
-/// Whether this file is published under this name.
+/// Returns whether an event publishes this file under this name.
 fn is_publication(event: &Event, want: (&[u8], &[u8])) -> bool {
     matches!(event, Event::Publish { name, file } if (name.as_slice(), file.as_slice()) == want)
 }
 
-/// Whether a client of this name is made, of as many blocks as can be.
+/// Returns whether an event makes a client of this name, with the greatest number of blocks.
 fn is_client(event: &Event, want: &[u8]) -> bool {
     matches!(event, Event::NewClient { name, blocks: u32::MAX } if name.as_slice() == want)
 }
 
-/// Whether this message is asked.
+/// Returns whether an event asks this message.
 fn is_ask(event: &Event, want: &[u8]) -> bool {
     matches!(event, Event::Ask(message) if message.as_slice() == want)
 }
 
-/// Whether this is event `n` of a script with one of each kind.
+/// Returns whether an event is event `n` of a script with one of each kind.
 fn is_event(n: usize, event: &Event) -> bool {
     match n {
         0 => matches!(event, Event::Epoch(7)),
@@ -96,7 +96,7 @@ fn reads_an_event_of_each_kind(rt: HostRuntime) -> Result<(), Fail> {
     Ok(())
 }
 
-/// Lines that are no events: of other forms, with other spaces or ends, with greater numbers, and of events that aren't there.
+/// Lines that are no events: of other forms, with other spaces or ends, with greater numbers, and of events that don't exist.
 const NO_EVENTS: [&str; 36] = [
     "exchange",
     "exchange 0 0",

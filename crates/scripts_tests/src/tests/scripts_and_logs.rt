@@ -11,7 +11,7 @@ pub const ONE_WINDOW: Steps = &[
     ("exchange 0", "asked 0 0-65535 - answer 0 206 378 took 1\nreport 0 \"1-1\" window 3 2 1 121314222324"),
 ];
 
-/// The last sample of f1, and windows that its only level has not.
+/// The last sample of f1, and windows that its only level doesn't have.
 #[rattlefmt::skip]
 const LAST_SAMPLE_AND_OUTSIDE: Steps = &[
     ("open 0 level 0 15 15 1 1", "opened 0"),
@@ -26,7 +26,7 @@ const LAST_SAMPLE_AND_OUTSIDE: Steps = &[
     ("exchange 0", "asked 0 nothing\nreport 0 \"1-1\" fault 14"),
 ];
 
-/// Files each of which has another fault.
+/// Files that each have another fault.
 #[rattlefmt::skip]
 const DAMAGED_DIRECTORIES: Steps = &[
     ("epoch 1", "epoch 1"),
@@ -78,7 +78,7 @@ const EPOCHS_AND_REPLACEMENTS: Steps = &[
     ("exchange 0", "asked 0 0-65535 - answer 2 206 378 took 1\nreport 0 \"2-1\" window 1 1 1 01"),
 ];
 
-/// Messages of any bytes, the request for the last byte of `a` among them, and an exchange between them.
+/// Messages of any bytes. The request for the last byte of `a` is among them, and an exchange is between them.
 #[rattlefmt::skip]
 const ASKS: Steps = &[
     ("epoch 1", "epoch 1"),
@@ -142,7 +142,7 @@ fn keeps_clients_of_two_names_apart(rt: HostRuntime) -> Result<(), Fail> {
     expect_steps(&rt, TWO_NAMES_AND_TWO_CLIENTS)
 }
 
-/// A script that publishes f1 under names of 1 to 200 bytes and others, and an empty file.
+/// Expects the log of a script that publishes f1 under names of 1 to 200 bytes and others, and an empty file.
 #[test]
 fn refuses_names_of_other_bytes_and_empty_files(rt: HostRuntime) -> Result<(), Fail> {
     let name = [b'n'; 201];
@@ -158,7 +158,7 @@ fn refuses_names_of_other_bytes_and_empty_files(rt: HostRuntime) -> Result<(), F
     )
 }
 
-/// The publication of so many bytes 0 as `a`.
+/// Makes the publication of `len` zero bytes as `a`.
 fn publication(alloc: Global, len: usize) -> Result<Event, AllocError> {
     let name = Vec::from_slice(alloc, b"a")?;
     let file = vec![in alloc; 0; len]?;
@@ -175,7 +175,7 @@ fn refuses_a_file_past_the_limit(rt: HostRuntime) -> Result<(), Fail> {
     expect_log(&rt, &events, texts, None)
 }
 
-/// A script that publishes f1 under 65 names and under the 64th again, and its log.
+/// Returns a script that publishes f1 under 65 names and under the 64th again, and its log.
 fn texts_of_65_names(alloc: Global) -> Result<(String, String), AllocError> {
     let mut text = String::new(alloc);
     let mut want = String::new(alloc);
@@ -188,7 +188,7 @@ fn texts_of_65_names(alloc: Global) -> Result<(String, String), AllocError> {
     Ok((text, want))
 }
 
-/// 64 names are taken, and a further one is refused; a name that is there is published again.
+/// Expects that 64 names are taken, and a further one is refused. A name that is there is published again.
 #[test]
 fn refuses_the_65th_name(rt: HostRuntime) -> Result<(), Fail> {
     let (text, want) = texts_of_65_names(rt.alloc())?;

@@ -1,4 +1,4 @@
-//! Windows of f1 after one exchange: their samples by themselves and beside the plain program, and windows outside the level.
+//! Windows of f1 after one exchange: their samples alone and beside the plain program, and windows outside the level.
 use assertion_support::expect_eq;
 use fixtures_support::{f1, f1m};
 use reference_support::sample;
@@ -8,7 +8,7 @@ use std::test::Fail;
 use tiff_dir::{FileFault, Pick, Query};
 use world::{Event, Log, Outcome, Window, run};
 
-/// The log of one exchange for a window of level 0 of a file that is published as `a` in epoch 1.
+/// Returns the log of one exchange for a window of level 0 of a file that is published as `a` in epoch 1.
 fn read(alloc: Global, file: &[u8], sides: [u32; 4]) -> Result<Log, Fail> {
     let [x, y, w, h] = sides;
     let pick = Pick::Level(0);
@@ -31,10 +31,10 @@ fn read(alloc: Global, file: &[u8], sides: [u32; 4]) -> Result<Log, Fail> {
     Ok(log)
 }
 
-/// What a report tells of a window: its tag, sides and samples.
+/// What a report says of a window: its tag, sides and samples.
 type Told<'a> = (&'a [u8], u32, u32, &'a [u8]);
 
-/// The last report, where it is a window of one sample of 8 bits to a pixel.
+/// Returns the last report, where it is a window of one sample of 8 bits to a pixel.
 fn last_window(log: &Log) -> Option<Told<'_>> {
     let report = log.entries.last()?.report.as_ref()?;
     match &report.outcome {
@@ -58,13 +58,13 @@ fn last_fault(log: &Log) -> Option<FileFault> {
     }
 }
 
-/// The sample in this column and row by the plain program.
+/// Returns the sample in this column and row by the plain program.
 fn plain_sample(alloc: Global, file: &[u8], column: u32, row: u32) -> Result<u8, Fail> {
     let value = sample(alloc, file, 0, column, row, 0)?.ok_or("no sample")?;
     Ok(u8::try_from(value).ok().ok_or("more than a byte")?)
 }
 
-/// The samples of the rectangle by the plain program, row by row.
+/// Returns the samples of the rectangle by the plain program, row by row.
 fn samples(alloc: Global, file: &[u8], sides: [u32; 4]) -> Result<Vec<u8>, Fail> {
     let [x, y, w, h] = sides;
     let mut samples = Vec::new(alloc);
@@ -76,7 +76,7 @@ fn samples(alloc: Global, file: &[u8], sides: [u32; 4]) -> Result<Vec<u8>, Fail>
     Ok(samples)
 }
 
-/// Columns, rows and sides: the whole tile, one sample, a row, a column, each corner, and some inside.
+/// Rows of columns, rows and sides: the whole tile, one sample, a row, a column, each corner, and some inside.
 const WINDOWS: [[u32; 4]; 10] = [
     [0, 0, 16, 16],
     [7, 9, 1, 1],
@@ -90,7 +90,7 @@ const WINDOWS: [[u32; 4]; 10] = [
     [15, 15, 1, 1],
 ];
 
-/// Whether this is a window of the first revision, of these sides and samples.
+/// Returns whether this is a window of the first revision, with these sides and samples.
 fn is_window(told: Option<Told<'_>>, sides: [u32; 4], want: &[u8]) -> bool {
     match told {
         Some((tag, w, h, pixels)) => {
@@ -100,7 +100,7 @@ fn is_window(told: Option<Told<'_>>, sides: [u32; 4], want: &[u8]) -> bool {
     }
 }
 
-/// Expects a log of five entries, the last of which reports a window of these sides and samples.
+/// Expects a log of five entries, the last of which reports a window with these sides and samples.
 fn expect_log(
     rt: &impl Abort,
     log: &Log,

@@ -1,12 +1,12 @@
-//! What a server adds by option: the fields of the CORS protocol (Fetch standard, section 3.3), the answer to a preflight, and that the
-//! hundredth answer is the last. The heads are written by hand from the standards.
+//! What a server adds by option: the fields of the CORS protocol (Fetch standard, section 3.3), and the answer to a preflight. It also says
+//! that the hundredth answer is the last. The heads are written by hand from the standards.
 use super::driving::{ASKS_A, give, publish, server_of_two, take};
 use assertion_support::expect_eq;
 use cog_server::{Additions, Connection, Ended, Server, Service};
 use std::process::Abort;
 use std::test::Fail;
 
-/// An origin that is allowed, a request, the status of its answer, and its text.
+/// A row has an origin that is allowed, a request, the status of its answer, and its text.
 type Row = (Option<&'static str>, &'static str, u16, &'static str);
 
 const MAPS: Option<&str> = Some("https://maps.example");
@@ -51,7 +51,7 @@ fn expect_answer(
     Ok(())
 }
 
-/// What is added for an origin, if one is allowed.
+/// Returns what is added for an origin, if one is allowed.
 fn additions_for(origin: Option<&str>) -> Additions<'_> {
     let origin = match origin {
         Some(origin) => Some(origin.as_bytes()),
@@ -106,7 +106,7 @@ fn announces_the_hundredth_answer(rt: HostRuntime) -> Result<(), Fail> {
     Ok(())
 }
 
-/// A file that is replaced while its answer waits is kept, and noted as one that is published no more.
+/// Expects that a file that is replaced while its answer waits is kept, and is noted as one that is no longer published.
 #[test]
 fn notes_bytes_of_a_replaced_file(rt: HostRuntime) -> Result<(), Fail> {
     let mut server = server_of_two(rt.alloc())?;

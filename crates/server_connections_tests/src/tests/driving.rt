@@ -1,18 +1,18 @@
-//! What the tests do to a connection, and what they expect of it.
+//! What the tests do with a connection, and what they expect of it.
 use cog_server::{Connection, Server};
 use http_range::Memory;
 use server_connections::Connections;
 use std::alloc::Global;
 use std::test::Fail;
 
-/// A request for the file `a`, one for `b`, and one for `a` that ends the connection.
+/// Requests for the file `a`, for `b`, and one for `a` that ends the connection.
 pub const ASKS_A: &[u8] = b"GET /a HTTP/1.1\r\nHost: h\r\n\r\n";
 
 pub const ASKS_B: &[u8] = b"GET /b HTTP/1.1\r\nHost: h\r\n\r\n";
 
 pub const CLOSES: &[u8] = b"GET /a HTTP/1.1\r\nHost: h\r\nConnection: close\r\n\r\n";
 
-/// Publishes so many times the same byte.
+/// Publishes `count` copies of the byte `byte`.
 pub fn publish(
     alloc: Global,
     server: &mut Server,
@@ -26,7 +26,7 @@ pub fn publish(
     Ok(())
 }
 
-/// A server with the files `a` and `b`.
+/// Makes a server with the files `a` and `b`.
 pub fn server_of_two(alloc: Global) -> Result<Server, Fail> {
     let mut server = Server::new(alloc, 1);
     publish(alloc, &mut server, b"a", b'A', 5)?;
@@ -34,14 +34,14 @@ pub fn server_of_two(alloc: Global) -> Result<Server, Fail> {
     Ok(server)
 }
 
-/// Hands in as many of the bytes as there is room for, and says how many.
+/// Hands in as many of the bytes as there is room for. Returns how many.
 pub fn give(connection: &mut Connection, bytes: &[u8]) -> Result<usize, Memory> {
     let n = connection.room().min(bytes.len());
     connection.came(&bytes[..n])?;
     Ok(n)
 }
 
-/// Takes at most so many bytes of what waits, and says how many.
+/// Takes at most `most` of the waiting bytes. Returns how many.
 pub fn take(connection: &mut Connection, most: usize, text: &mut Vec<u8>) -> Result<usize, Fail> {
     let (head, body) = connection.waiting();
     let front = &head[..most.min(head.len())];
@@ -53,7 +53,7 @@ pub fn take(connection: &mut Connection, most: usize, text: &mut Vec<u8>) -> Res
     Ok(n)
 }
 
-/// Hands bytes to a connection of the table, as many as there is room for, and says how many.
+/// Hands bytes to a connection of the table, as many as there is room for. Returns how many.
 pub fn give_at(connections: &mut Connections, number: u64, bytes: &[u8]) -> Result<usize, Memory> {
     let Some(timed) = connections.get(number) else {
         return Ok(0);
@@ -63,7 +63,7 @@ pub fn give_at(connections: &mut Connections, number: u64, bytes: &[u8]) -> Resu
     Ok(n)
 }
 
-/// Takes at most so many bytes of what waits on a connection of the table, at a moment.
+/// Takes at most `most` of the bytes that wait on a connection of the table, at the moment `now`. Returns how many.
 pub fn take_at(
     connections: &mut Connections,
     number: u64,

@@ -1,4 +1,4 @@
-//! Where memory is refused, that is what is told: this connection and the other are as they were, and the same call succeeds later.
+//! Where memory is refused, the failure reports that. This connection and the other are as they were, and the same call succeeds later.
 use super::driving::{ASKS_A, ASKS_B, give_at, take_at};
 use assertion_support::expect_eq;
 use cog_server::{PublishError, Server, Service};
@@ -9,10 +9,10 @@ use std::num::NonZeroUsize;
 use std::process::Abort;
 use std::test::Fail;
 
-/// Room for the text of an answer.
+/// The number of bytes of room for the text of an answer.
 const ROOM: usize = 1024;
 
-/// Of both connections: the room for what comes, what waits in bytes, and the answers.
+/// Returns, for both connections, the room for bytes that come, the number of waiting bytes, and the number of answers.
 fn state(connections: &Connections) -> [Option<(usize, usize, usize)>; 2] {
     let mut state = [None, None];
     for number in 0..2usize {
@@ -26,7 +26,7 @@ fn state(connections: &Connections) -> [Option<(usize, usize, usize)>; 2] {
     state
 }
 
-/// Accepts a connection, a second time where memory was refused.
+/// Accepts a connection. Accepts it a second time where memory was refused.
 fn accept(rt: &impl Abort, connections: &mut Connections) -> Result<u64, Fail> {
     let before = state(connections);
     if connections.is_full() {
@@ -41,7 +41,7 @@ fn accept(rt: &impl Abort, connections: &mut Connections) -> Result<u64, Fail> {
     }
 }
 
-/// Hands a message to a connection, a second time where memory was refused.
+/// Hands a message to a connection. Hands it a second time where memory was refused.
 fn give(
     rt: &impl Abort,
     connections: &mut Connections,
@@ -58,7 +58,7 @@ fn give(
     }
 }
 
-/// Answers the next message of a connection, a second time where memory was refused, and returns the status code.
+/// Answers the next message of a connection. Answers it a second time where memory was refused. Returns the status code.
 fn go_on(
     rt: &impl Abort,
     connections: &mut Connections,
@@ -75,7 +75,7 @@ fn go_on(
     }
 }
 
-/// A table for two, made a second time where memory was refused.
+/// Makes a table for two. Makes it a second time where memory was refused.
 fn table_of_two(alloc: Global) -> Result<Connections, Fail> {
     let two = NonZeroUsize::new(2).ok_or("none")?;
     match Connections::new(alloc, two) {
@@ -84,7 +84,7 @@ fn table_of_two(alloc: Global) -> Result<Connections, Fail> {
     }
 }
 
-/// A file of so many times the same byte, made a second time where memory was refused.
+/// Makes a file of `count` copies of the byte `byte`. Makes it a second time where memory was refused.
 fn file_of(alloc: Global, byte: u8, count: usize) -> Result<Vec<u8>, Fail> {
     match vec![in alloc; byte; count] {
         Ok(file) => Ok(file),
@@ -92,7 +92,7 @@ fn file_of(alloc: Global, byte: u8, count: usize) -> Result<Vec<u8>, Fail> {
     }
 }
 
-/// Publishes a file of so many times the same byte, a second time where memory was refused.
+/// Publishes a file of `count` copies of the byte `byte`. Publishes it a second time where memory was refused.
 fn publish(
     rt: &(impl Abort + AllocGlobal),
     server: &mut Server,
@@ -108,7 +108,7 @@ fn publish(
     Ok(())
 }
 
-/// Why a publication is refused.
+/// Returns why a publication is refused.
 fn refusal_of(server: &mut Server, name: &[u8], file: Vec<u8>) -> Option<PublishError> {
     match server.publish(name, file) {
         Ok(_) => None,
@@ -116,7 +116,7 @@ fn refusal_of(server: &mut Server, name: &[u8], file: Vec<u8>) -> Option<Publish
     }
 }
 
-/// The text of the answer to a message, made a second time where memory was refused.
+/// Returns the text of the answer to a message. Makes it a second time where memory was refused.
 fn answer_to(server: &Server, message: &[u8]) -> Result<Vec<u8>, Memory> {
     match server.answer(message) {
         Ok(answer) => Ok(answer.text),
@@ -124,7 +124,7 @@ fn answer_to(server: &Server, message: &[u8]) -> Result<Vec<u8>, Memory> {
     }
 }
 
-/// What waits on a connection, taken into room that is made a second time where memory was refused.
+/// Returns the bytes that wait on a connection. They are taken into room that is made a second time where memory was refused.
 fn taken(alloc: Global, connections: &mut Connections, number: u64) -> Result<Vec<u8>, Fail> {
     let mut text = match Vec::with_capacity(alloc, ROOM) {
         Ok(text) => text,

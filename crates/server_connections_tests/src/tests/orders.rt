@@ -1,4 +1,4 @@
-//! Two connections, in every order of what happens to them: each is answered as if it were alone.
+//! Two connections, in every order of what happens to them. Each is answered as if it were alone.
 use super::driving::{ASKS_A, ASKS_B, CLOSES, give_at, server_of_two, take_at};
 use assertion_support::expect_eq;
 use cog_server::{AfterBytes, AfterPieces, ScriptedInlet, ScriptedOutlet, Server, Service};
@@ -8,13 +8,13 @@ use std::num::NonZeroUsize;
 use std::process::Abort;
 use std::test::Fail;
 
-/// What is done to a connection, one after another: bytes come, a message is answered, some of the answer is taken.
+/// The number of steps of a connection, one after another. Bytes come, a message is answered, or some of the answer is taken.
 const STEPS: u32 = 6;
 
-/// The streams of the two, in two pieces each.
+/// The streams of the two connections, in two pieces each.
 const STREAMS: [[&[u8]; 2]; 2] = [[ASKS_A, CLOSES], [ASKS_B, ASKS_A]];
 
-/// What `serve` writes where it is given both pieces alone.
+/// Returns what `serve` writes where it is given both pieces alone.
 fn alone(alloc: Global, server: &Server, [first, second]: [&[u8]; 2]) -> Result<Vec<u8>, Fail> {
     let mut stream = Vec::from_slice(alloc, first)?;
     stream.extend_from_slice(second)?;
@@ -24,7 +24,7 @@ fn alone(alloc: Global, server: &Server, [first, second]: [&[u8]; 2]) -> Result<
     Ok(Vec::from_slice(alloc, outlet.taken())?)
 }
 
-/// Does this step of a connection.
+/// Does a step of a connection.
 fn step(
     connections: &mut Connections,
     server: &Server,
@@ -55,7 +55,7 @@ fn step(
     Ok(())
 }
 
-/// A table with two connections.
+/// Makes a table with two connections.
 fn table_of_two(alloc: Global) -> Result<Connections, Fail> {
     let mut connections = Connections::new(alloc, NonZeroUsize::new(2).ok_or("none")?)?;
     for _ in 0..2 {
@@ -66,7 +66,7 @@ fn table_of_two(alloc: Global) -> Result<Connections, Fail> {
     Ok(connections)
 }
 
-/// Does all steps of both, where the bits of the order say whose is next.
+/// Does all steps of both connections. The bits of the order say whose step is next.
 fn run(alloc: Global, server: &Server, order: u32) -> Result<[Vec<u8>; 2], Fail> {
     let mut connections = table_of_two(alloc)?;
     let mut texts = [Vec::new(alloc), Vec::new(alloc)];
@@ -97,7 +97,7 @@ fn answers_each_as_if_it_were_alone(rt: HostRuntime) -> Result<(), Fail> {
     Ok(())
 }
 
-/// Expects these texts of the two in an order.
+/// Expects these texts of the two connections in an order.
 fn expect_order(
     rt: &(impl Abort + AllocGlobal),
     server: &Server,

@@ -8,12 +8,12 @@ use std::num::NonZeroUsize;
 use std::process::Abort;
 use std::test::Fail;
 
-/// How many connections there are, and how many events.
+/// The number of connections, and the number of events.
 const CONNECTIONS: usize = 50;
 
 const EVENTS: usize = 20000;
 
-/// What a connection is asked again and again, how many bytes of that came, what is written, and what is to be.
+/// The request that a connection sends again and again, and how many bytes of it came. Then come what is written, and what is expected.
 #[derive(Drop)]
 struct Peer {
     asks: &'static [u8],
@@ -33,7 +33,7 @@ impl Peer {
     }
 }
 
-/// One event of a connection.
+/// Does one event of a connection, at random.
 fn happen(
     numbers: &mut Numbers,
     connections: &mut Connections,
@@ -52,7 +52,7 @@ fn happen(
     }
 }
 
-/// Some of the next bytes come.
+/// Lets some of the next bytes come.
 fn come(
     numbers: &mut Numbers,
     connections: &mut Connections,
@@ -69,7 +69,7 @@ fn come(
     Ok(())
 }
 
-/// The next message is answered where it came whole, and the answer is to be written.
+/// Answers the next message where it came whole. The answer is then expected to be written.
 fn go_on(
     connections: &mut Connections,
     server: &Server,
@@ -86,7 +86,7 @@ fn go_on(
     Ok(())
 }
 
-/// A table with its connections.
+/// Makes a table with its connections.
 fn full_table(alloc: Global) -> Result<Connections, Fail> {
     let limit = NonZeroUsize::new(CONNECTIONS).ok_or("none")?;
     let mut connections = Connections::new(alloc, limit)?;
@@ -98,7 +98,7 @@ fn full_table(alloc: Global) -> Result<Connections, Fail> {
     Ok(connections)
 }
 
-/// What the connections are asked.
+/// Returns what the connections are asked.
 fn peers_of(alloc: Global) -> Result<Vec<Peer>, Fail> {
     let mut peers = Vec::new(alloc);
     for number in 0..CONNECTIONS {
@@ -114,7 +114,7 @@ fn replace(alloc: Global, numbers: &mut Numbers, server: &mut Server) -> Result<
     publish(alloc, server, b"a", byte, count)
 }
 
-/// All events, with a publication at every hundredth.
+/// Does all events, with a publication at every hundredth.
 fn play(
     alloc: Global,
     server: &mut Server,
@@ -134,7 +134,7 @@ fn play(
     Ok(())
 }
 
-/// Takes what still waits on a connection, expects all that was to be written, and says how much that is.
+/// Takes what still waits on a connection, and expects all that should be written. Returns the number of its bytes.
 fn expect_text(
     rt: &(impl Abort + AllocGlobal),
     connections: &mut Connections,

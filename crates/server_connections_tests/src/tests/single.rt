@@ -1,4 +1,4 @@
-//! One connection: bytes one by one, short writes, the last answer, a file that is replaced, and what comes behind the last.
+//! One connection: bytes one by one, short writes, the last answer, a file that is replaced, and what comes after the last message.
 use super::driving::{ASKS_A, ASKS_B, CLOSES, give, publish, server_of_two, take};
 use assertion_support::expect_eq;
 use cog_server::{Connection, Ended, Server};
@@ -6,7 +6,7 @@ use std::alloc::Global;
 use std::process::Abort;
 use std::test::Fail;
 
-/// The answers to some messages, each by the server as it stands.
+/// Returns the answers of the server, as it is now, to some messages.
 fn answers(alloc: Global, server: &Server, messages: &[&[u8]]) -> Result<Vec<u8>, Fail> {
     let mut text = Vec::new(alloc);
     for message in messages {
@@ -34,7 +34,7 @@ fn answers_single_bytes_by_writes_of_one(rt: HostRuntime) -> Result<(), Fail> {
     Ok(())
 }
 
-/// Hands in the bytes of a message one by one, and takes what waits behind each.
+/// Hands in the bytes of a message one by one, and takes what waits after each.
 fn expect_single_bytes(
     rt: &(impl Abort + AllocGlobal),
     connection: &mut Connection,
@@ -51,7 +51,7 @@ fn expect_single_bytes(
     Ok(())
 }
 
-/// Takes 200 times one byte of what waits.
+/// Takes one waiting byte, 200 times.
 fn take_single_bytes(connection: &mut Connection, text: &mut Vec<u8>) -> Result<(), Fail> {
     for _ in 0..200 {
         take(connection, 1, text)?;
@@ -59,7 +59,7 @@ fn take_single_bytes(connection: &mut Connection, text: &mut Vec<u8>) -> Result<
     Ok(())
 }
 
-/// A hundred messages are answered and no more, and a second answer waits until the first is written.
+/// Expects that a hundred messages are answered and no more. A second answer waits until the first is written.
 #[test]
 fn ends_with_the_hundredth_answer(rt: HostRuntime) -> Result<(), Fail> {
     let alloc = rt.alloc();
@@ -104,7 +104,7 @@ fn give_two_and_answer(
     Ok(())
 }
 
-/// A file that is on its way is sent to its end as it was; the next message has the new one.
+/// Expects that a file whose answer is under way is sent to its end as it was. The answer to the next message has the new file.
 #[test]
 fn sends_a_replaced_file_as_it_was(rt: HostRuntime) -> Result<(), Fail> {
     let alloc = rt.alloc();
@@ -122,7 +122,7 @@ fn sends_a_replaced_file_as_it_was(rt: HostRuntime) -> Result<(), Fail> {
     Ok(())
 }
 
-/// Expects that the second message is answered once the first answer is taken, and takes both.
+/// Expects that the second message is answered after the first answer is taken. Takes both.
 fn expect_second_behind_the_first(
     rt: &(impl Abort + AllocGlobal),
     connection: &mut Connection,
@@ -136,7 +136,7 @@ fn expect_second_behind_the_first(
     Ok(())
 }
 
-/// Behind the last message 65,536 bytes are dropped, and then no more may come.
+/// Expects that 65,536 bytes after the last message are dropped, and that then no more may come.
 #[test]
 fn drops_what_comes_behind_the_last_message(rt: HostRuntime) -> Result<(), Fail> {
     let alloc = rt.alloc();
@@ -154,7 +154,7 @@ fn drops_what_comes_behind_the_last_message(rt: HostRuntime) -> Result<(), Fail>
     Ok(())
 }
 
-/// Expects that a connection drains once its last answer is taken.
+/// Expects that a connection drains after its last answer is taken.
 fn expect_draining(
     rt: &(impl Abort + AllocGlobal),
     connection: &mut Connection,
@@ -168,7 +168,7 @@ fn expect_draining(
     Ok(())
 }
 
-/// Expects that so many of the bytes are dropped, and whether no more may come then.
+/// Expects that `count` of the bytes are dropped, and whether no more may come then.
 fn expect_dropped(
     rt: &(impl Abort + AllocGlobal),
     connection: &mut Connection,

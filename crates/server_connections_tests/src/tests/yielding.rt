@@ -1,4 +1,4 @@
-//! Whose place a newcomer takes.
+//! Which connection gives its slot to one that waits.
 use super::driving::{ASKS_A, CLOSES, give_at, server_of_two, take_at};
 use assertion_support::expect_eq;
 use cog_server::{Server, Service};
@@ -21,7 +21,7 @@ enum Doing {
     Draining,
 }
 
-/// Accepts a connection at a moment, which then does this.
+/// Accepts a connection at a moment. The connection then does this.
 fn accept(alloc: Global, connections: &mut Connections, doing: Doing, at: u64) -> Result<(), Fail> {
     let server = server_of_two(alloc)?;
     if connections.is_full() {
@@ -31,7 +31,7 @@ fn accept(alloc: Global, connections: &mut Connections, doing: Doing, at: u64) -
     begin(alloc, connections, &server, (number, doing, at))
 }
 
-/// Does this at a moment, by the connection of this number.
+/// Does this on connection `number` at a moment.
 fn begin(
     alloc: Global,
     connections: &mut Connections,
@@ -56,11 +56,11 @@ fn begin(
     Ok(())
 }
 
-/// The connections of a table with their moments, which of them yields at the moment 100 with the patience 30, and when the
-/// table wakes.
+/// A row has the connections of a table with their moments. Then come which of them yields at the moment 100 with the patience 30, and when
+/// the table wakes.
 type Row<'a> = (&'a [(Doing, u64)], Option<u64>, Option<u64>);
 
-/// A table with these connections.
+/// Makes a table with these connections.
 fn table_of(alloc: Global, rows: &[(Doing, u64)]) -> Result<Connections, Fail> {
     let limit = NonZeroUsize::new(rows.len()).ok_or("no rows")?;
     let mut connections = Connections::new(alloc, limit)?;
@@ -70,7 +70,7 @@ fn table_of(alloc: Global, rows: &[(Doing, u64)]) -> Result<Connections, Fail> {
     Ok(connections)
 }
 
-/// Tries the sockets that are to be tried at the moment 100 with the patience 30. None of them takes a byte.
+/// Tries the sockets that are due at the moment 100 with the patience 30. None of them takes a byte.
 fn try_sockets(connections: &mut Connections, count: usize) {
     for _ in 0..count {
         if let Some(number) = connections.untried(100, 30) {
@@ -79,7 +79,7 @@ fn try_sockets(connections: &mut Connections, count: usize) {
     }
 }
 
-/// Expects each row, once the sockets are tried.
+/// Expects each row, after the sockets are tried.
 fn expect(rt: &(impl Abort + AllocGlobal), rows: &[Row<'_>]) -> Result<(), Fail> {
     for (table, yields, wakes) in rows {
         let mut connections = table_of(rt.alloc(), table)?;
@@ -93,7 +93,7 @@ fn expect(rt: &(impl Abort + AllocGlobal), rows: &[Row<'_>]) -> Result<(), Fail>
     Ok(())
 }
 
-/// One drains, or one idles.
+/// Rows where one connection drains, or one is idle.
 #[rattlefmt::skip]
 const DRAIN_OR_IDLE: [Row<'static>; 4] = [
     (&[(Doing::Idle, 90), (Doing::Draining, 99), (Doing::Begun, 1)], Some(1), Some(31)),
@@ -102,7 +102,7 @@ const DRAIN_OR_IDLE: [Row<'static>; 4] = [
     (&[(Doing::Answered, 1), (Doing::Idle, 100)], Some(1), Some(31)),
 ];
 
-/// All are busy.
+/// Rows where all connections are busy.
 #[rattlefmt::skip]
 const BUSY: [Row<'static>; 4] = [
     (&[(Doing::Begun, 71), (Doing::Answered, 72)], None, Some(101)),
@@ -111,7 +111,7 @@ const BUSY: [Row<'static>; 4] = [
     (&[(Doing::Answered, 200), (Doing::Begun, 300)], None, Some(230)),
 ];
 
-/// One is alone.
+/// Rows where one connection is alone.
 #[rattlefmt::skip]
 const ALONE: [Row<'static>; 4] = [
     (&[(Doing::Idle, 1)], None, Some(31)),
@@ -125,13 +125,14 @@ fn takes_the_place_of_one_that_drains_or_idles(rt: HostRuntime) -> Result<(), Fa
     expect(&rt, &DRAIN_OR_IDLE)
 }
 
-/// A busy one yields only where its patience has run out: at 70, and not at 71.
+/// Expects that a busy connection yields only where its patience has run out: at 70, and not at 71.
 #[test]
 fn takes_the_place_of_a_busy_one_behind_the_patience(rt: HostRuntime) -> Result<(), Fail> {
     expect(&rt, &BUSY)
 }
 
-/// A socket is to be tried at half of the patience, and before its connection loses its slot. One that takes a byte keeps the slot.
+/// Expects that a socket is tried at half of the patience, and before its connection loses its slot. A connection whose socket takes a byte
+/// keeps the slot.
 #[test]
 fn tries_a_socket_before_its_connection_yields(rt: HostRuntime) -> Result<(), Fail> {
     let mut connections = table_of(rt.alloc(), &[(Doing::Answered, 50), (Doing::Begun, 60)])?;

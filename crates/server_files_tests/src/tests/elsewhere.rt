@@ -13,8 +13,7 @@ const PATH: &str = "served_files_tests_elsewhere";
 
 const OTHER: &str = "served_files_tests_elsewhere_other";
 
-/// A runtime whose clock is ahead, so that files are older than two seconds, and in which the path leads to another file once it was
-/// looked at.
+/// A runtime whose clock is ahead, so that files are older than two seconds. In it the path leads to another file after it was looked at.
 #[derive(Drop)]
 struct Turning<'r, R> {
     rt: &'r R,
@@ -92,7 +91,7 @@ impl<R: Files> Files for Turning<'_, R> {
     }
 }
 
-/// The other file is read in the place of the one that was looked at, and once the path leads back, that one is published.
+/// Expects that the other file is published instead of the one that was looked at. After the path leads back, that one is published.
 #[test]
 fn remembers_the_file_that_it_read(rt: HostRuntime) -> Result<(), Fail> {
     fs::write(&rt, PATH, b"looked at")?;

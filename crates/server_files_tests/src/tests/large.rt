@@ -1,4 +1,4 @@
-//! Files that are longer than what is compared at once.
+//! Files that are longer than the part that is compared at once.
 use cog_server::Server;
 use disk_files::Watched;
 use std::fs;
@@ -8,7 +8,7 @@ use std::test::Fail;
 
 const PATH: &str = "served_files_tests_large";
 
-/// Writes the file, and expects that it is published anew, as it is, and not once more.
+/// Writes the file. Expects that it is published anew, as it is, and not once more.
 fn expect_anew<R: Abort + Files + Clock + AllocGlobal>(
     rt: &R,
     server: &mut Server,
@@ -22,7 +22,8 @@ fn expect_anew<R: Abort + Files + Clock + AllocGlobal>(
     Ok(())
 }
 
-/// Another last byte, none there, one behind it, and a file that is cut behind 131,072 bytes, and behind 65,536.
+/// Expects that each change is published. These are another last byte, no last byte, one byte more, and a file that is cut after 131,072
+/// bytes, and after 65,536.
 #[test]
 fn sees_each_change_of_a_large_file(rt: HostRuntime) -> Result<(), Fail> {
     let mut server = Server::new(rt.alloc(), 7);

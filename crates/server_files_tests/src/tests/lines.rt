@@ -1,4 +1,4 @@
-//! Connections of `cogserve` with the lines that it prints: the file of the disk is written anew between them.
+//! Connections of `cogserve` with the lines that it prints. The file of the disk is written anew between them.
 use assertion_support::expect_eq;
 use cog_server::{Additions, Server};
 use disk_files::Watched;
@@ -20,12 +20,12 @@ use transports::server_of_one;
 
 const ASK: &str = "GET /a HTTP/1.1\r\nHost: h\r\nRange: bytes=1-4\r\n\r\n";
 
-/// No log.
+/// Makes a log that isn't kept.
 fn unlogged<R>(rt: &R) -> AccessLog<'_, R> {
     AccessLog { rt, is_kept: false }
 }
 
-/// So many connections in all, and as many at once as there may be.
+/// Makes limits of `connections` connections in all, with as many at once as there may be.
 pub fn limits(connections: u32) -> Limits {
     Limits {
         connections,
@@ -34,7 +34,7 @@ pub fn limits(connections: u32) -> Limits {
     }
 }
 
-/// A connection on which this is sent.
+/// Makes a connection on which `text` is sent.
 pub fn connect<R: Net<Stream = TcpStream>>(
     rt: &R,
     address: SocketAddr,
@@ -46,7 +46,7 @@ pub fn connect<R: Net<Stream = TcpStream>>(
     Ok(client)
 }
 
-/// What comes back where a request is sent and one connection is served.
+/// Returns what comes back where a request is sent and one connection is served.
 fn answer_of<R>(
     rt: &R,
     server: &mut Server,
@@ -78,22 +78,22 @@ where
     Ok(io::read_to_string(rt.alloc(), client)?)
 }
 
-/// What the file is before a connection, none where there is none; the tag and the length that the answer tells, its body,
-/// and whether the file is published anew.
+/// A row has the file before a connection, or `None` where there is none. Then come the tag and the length in the answer, its body, and
+/// whether the file is published anew.
 type Turn = (Option<&'static str>, &'static str, u32, &'static str, bool);
 
 const PATH: &str = "served_files_tests_served";
 
-/// A file that was left alone for so many milliseconds isn't read again until the disk says something else of it.
+/// The milliseconds after which a file that was left alone isn't read again until the disk says something else of it.
 const SETTLED: u64 = 2_100;
 
 #[rattlefmt::skip]
 const TURNS: [Turn; 6] = [
     (Some("abcdefgh"), "7-1", 8, "bcde", false),
     (Some("ABCDEFGHI"), "7-2", 9, "BCDE", true),
-    // The same bytes again.
+    // The same bytes come again.
     (Some("ABCDEFGHI"), "7-2", 9, "BCDE", false),
-    // A file that would be refused, and none.
+    // A file that would be refused, and no file.
     (Some(""), "7-2", 9, "BCDE", false),
     (None, "7-2", 9, "BCDE", false),
     (Some("12345"), "7-3", 5, "2345", true),
@@ -107,7 +107,7 @@ fn put_file<R: Files>(rt: &R, file: Option<&str>) -> io::Result<()> {
     }
 }
 
-/// Expects the answer of a turn, and what is printed.
+/// Expects the answer of a turn, and the lines that are printed.
 fn expect_turn<R>(
     rt: &R,
     turn: Turn,
@@ -140,7 +140,7 @@ where
     Ok(())
 }
 
-/// Whether the files are published with these lines.
+/// Returns whether the files are published with these lines.
 fn is_published<R: Files + Clock + AllocGlobal>(
     rt: &R,
     server: &mut Server,
@@ -169,7 +169,7 @@ fn publishes_a_file_anew_where_it_has_changed(rt: HostRuntime) -> Result<(), Fai
     Ok(())
 }
 
-/// Each connection is counted, also one that ends without a request, or with one that is refused.
+/// Expects that each connection is counted, also one that ends without a request, or with one that is refused.
 #[test]
 fn counts_each_connection(rt: HostRuntime) -> Result<(), Fail> {
     let mut server = Server::new(rt.alloc(), 1);
@@ -200,7 +200,7 @@ fn counts_each_connection(rt: HostRuntime) -> Result<(), Fail> {
 
 const LAST: &str = "GET /a HTTP/1.1\r\nHost: h\r\nRange: bytes=1-4\r\nConnection: close\r\n\r\n";
 
-/// A client that stays behind its last answer, and does nothing, holds the server for two seconds, and not for ten.
+/// Expects that a client that stays after its last answer, and does nothing, holds the server for two seconds, and not for ten.
 #[test]
 fn ends_where_a_client_stays(rt: HostRuntime) -> Result<(), Fail> {
     let mut server = server_of_one(rt.alloc(), 1, b"a", f1(rt.alloc())?)?;
@@ -232,7 +232,7 @@ fn ends_where_a_client_stays(rt: HostRuntime) -> Result<(), Fail> {
     Ok(())
 }
 
-/// A line that can't be written is lost, and the server goes on.
+/// Expects that a line that can't be written is lost, and the server goes on.
 #[test]
 fn serves_on_where_standard_output_is_closed(rt: HostRuntime) -> Result<(), Fail> {
     let mut server = Server::new(rt.alloc(), 1);
@@ -257,7 +257,7 @@ fn serves_on_where_standard_output_is_closed(rt: HostRuntime) -> Result<(), Fail
     Ok(())
 }
 
-/// Of two files of one name both are published, and only the last is looked at again.
+/// Expects that two files of one name are both published, and that only the last is looked at again.
 #[test]
 fn looks_again_at_the_last_file_of_a_name_alone(rt: HostRuntime) -> Result<(), Fail> {
     fs::write(&rt, "served_files_tests_first", "12345")?;
@@ -280,7 +280,8 @@ fn looks_again_at_the_last_file_of_a_name_alone(rt: HostRuntime) -> Result<(), F
     Ok(())
 }
 
-/// A file is replaced by one of its length, and each is left alone until a change of it shows in what the disk says.
+/// Expects that a file that is replaced by one of its length is served. Each is left alone until a change of it shows in what the disk
+/// says.
 #[test]
 fn serves_a_file_that_was_replaced_before(rt: HostRuntime) -> Result<(), Fail> {
     let (path, other) = ("served_files_tests_replaced", "served_files_tests_other");
@@ -314,7 +315,7 @@ fn publishes_the_bytes_of_the_file(rt: HostRuntime) -> Result<(), Fail> {
     Ok(())
 }
 
-/// A stream is no listener.
+/// Expects that a server ends where its listener is a stream, which accepts no connection.
 #[test]
 fn ends_where_no_connection_is_accepted(rt: HostRuntime) -> Result<(), Fail> {
     let listener = TcpListener::bind(&rt, "127.0.0.1:0")?;

@@ -14,7 +14,7 @@ use std::rt::{Clock, Files};
 use std::test::Fail;
 use transports::server_of_one;
 
-/// A log is kept.
+/// Makes a log that is kept.
 fn logged<R>(rt: &R) -> AccessLog<'_, R> {
     AccessLog { rt, is_kept: true }
 }
@@ -49,7 +49,7 @@ where
     with_client_named(rt.alloc(), log.as_str(), client.local_addr()?)
 }
 
-/// Writes `CLIENT` in the place of a client's address, where a line begins with it.
+/// Writes `CLIENT` instead of a client's address, where a line begins with it.
 fn with_client_named(alloc: Global, log: &str, client: SocketAddr) -> Result<String, Fail> {
     let address = format!(in alloc; "{client} ")?;
     let mut lines = String::new(alloc);
@@ -62,7 +62,7 @@ fn with_client_named(alloc: Global, log: &str, client: SocketAddr) -> Result<Str
     Ok(lines)
 }
 
-/// Four messages on one connection; the last is no request, and ends it.
+/// Four messages on one connection. The last is no request, and ends it.
 const MESSAGES: &str = "GET /a HTTP/1.1\r\nHost: h\r\nRange: bytes=1-4\r\n\r\n\
     HEAD /a HTTP/1.1\r\nHost: h\r\n\r\n\
     GET /b\u{fc} HTTP/1.1\r\nHost: h\r\n\r\n\
@@ -81,7 +81,7 @@ fn tells_each_answer(rt: HostRuntime) -> Result<(), Fail> {
     Ok(())
 }
 
-/// The sockets of a server, for one connection, and their address.
+/// Makes the sockets of a server, for one connection. Returns them and their address.
 fn serving<R: AllocGlobal + Net<Listener = TcpListener, Stream = TcpStream>>(
     rt: &R,
 ) -> Result<(Serving, SocketAddr), Fail> {
@@ -90,7 +90,7 @@ fn serving<R: AllocGlobal + Net<Listener = TcpListener, Stream = TcpStream>>(
     Ok((Serving::new(rt, listener, limits(1))?, address))
 }
 
-/// The head of a request comes in two pieces.
+/// Expects the line of a request whose head comes in two pieces.
 #[test]
 fn tells_the_whole_of_a_request_that_comes_in_pieces(rt: HostRuntime) -> Result<(), Fail> {
     let server = server_of_one(rt.alloc(), 1, b"a", f1(rt.alloc())?)?;
@@ -117,7 +117,7 @@ fn tells_the_whole_of_a_request_that_comes_in_pieces(rt: HostRuntime) -> Result<
 
 const PATH: &str = "served_files_tests_logged";
 
-/// A file is emptied, and then removed. The one that was published stays.
+/// Expects the lines about a file that is emptied, and then removed. The one that was published stays.
 #[test]
 fn tells_why_a_file_is_not_taken_anew(rt: HostRuntime) -> Result<(), Fail> {
     fs::write(&rt, PATH, "abcdefgh")?;
@@ -154,7 +154,7 @@ fn tells_the_port_that_the_system_gave(rt: HostRuntime) -> Result<(), Fail> {
     Ok(())
 }
 
-/// With a log a closed standard output ends no server; without one it does, before it listens.
+/// Expects that with a log a closed standard output ends no server. Without a log it ends the server before it listens.
 #[test]
 fn serves_with_a_log_where_standard_output_is_closed(rt: HostRuntime) -> Result<(), Fail> {
     let capture = Capture::closed(&rt);

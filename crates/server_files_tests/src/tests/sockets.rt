@@ -1,4 +1,4 @@
-//! Who has a place at a server of few places, and who gets one; each moment is handed in.
+//! Which connections have a slot at a server of few slots, and which get one. Each moment is handed in.
 use assertion_support::expect_eq;
 use cog_server::{Server, Service};
 use fixtures_support::f1;
@@ -12,12 +12,12 @@ use transports::server_of_one;
 
 const ASK: &str = "GET /a HTTP/1.1\r\nHost: h\r\nRange: bytes=0-3\r\n\r\n";
 
-/// The answer to that.
+/// The answer to that request.
 const ANSWER: &str =
     "HTTP/1.1 206 Partial Content\r\nETag: \"1-1\"\r\nAccept-Ranges: bytes\r\nContent-Type: image/tiff\r\n\
     Content-Range: bytes 0-3/378\r\nContent-Length: 4\r\n\r\nII*\0";
 
-/// A server of this file with so many places, where a connection without progress keeps its place for a second.
+/// Makes a server of this file with `places` slots. A connection without progress keeps its slot for a second.
 fn serving<R: AllocGlobal + Net<Listener = TcpListener, Stream = TcpStream>>(
     rt: &R,
     places: usize,
@@ -36,7 +36,7 @@ fn serving<R: AllocGlobal + Net<Listener = TcpListener, Stream = TcpStream>>(
     Ok((Serving::new(rt, listener, limits)?, server, address))
 }
 
-/// A connection on which this is sent.
+/// Makes a connection on which `text` is sent.
 fn connect<R: Net<Stream = TcpStream>>(
     rt: &R,
     address: SocketAddr,
@@ -47,7 +47,8 @@ fn connect<R: Net<Stream = TcpStream>>(
     Ok(client)
 }
 
-/// Accepts who gets a place at a moment and gives each connection its turn: how many were accepted, and how many have ended.
+/// Accepts the connections that get a slot at a moment, and gives each connection its turn. Returns how many were accepted, and how many
+/// have ended.
 fn turn(serving: &mut Serving, server: &Server, now: u64) -> Result<(u32, u32), Fail> {
     let Ok(accepted) = serving.accept(now) else {
         return Err(Fail::new("not accepted"));
@@ -79,7 +80,7 @@ fn expect_answer<R: Abort>(
     expect_answered(rt, client, serving, server, now)
 }
 
-/// Expects an answer at this moment, to what was asked on a connection.
+/// Expects an answer at this moment to the request on a connection.
 fn expect_answered<R: Abort>(
     rt: &R,
     client: &mut TcpStream,
@@ -92,7 +93,7 @@ fn expect_answered<R: Abort>(
     read_answer(rt, client)
 }
 
-/// Expects how many are accepted at a moment, and how many have ended.
+/// Expects how many connections are accepted at a moment, and how many have ended.
 fn expect_turn<R: Abort>(
     rt: &R,
     serving: &mut Serving,
@@ -118,7 +119,7 @@ fn answers_beside_those_who_say_nothing(rt: HostRuntime) -> Result<(), Fail> {
     Ok(())
 }
 
-/// The first of the idle ones gives its place away at once, one that began a message after the patience alone.
+/// Expects that the first idle connection gives its slot away at once. One that began a message gives it away only after the patience.
 #[test]
 fn gives_a_newcomer_a_slot(rt: HostRuntime) -> Result<(), Fail> {
     let (mut serving, server, address) = serving(&rt, 2)?;
@@ -133,7 +134,7 @@ fn gives_a_newcomer_a_slot(rt: HostRuntime) -> Result<(), Fail> {
     expect_answered(&rt, &mut second, &mut serving, &server, 1_011)
 }
 
-/// Expects that a newcomer is accepted at once, and that this connection has ended.
+/// Expects that a new connection is accepted at once, and that `idle` has ended.
 fn expect_instead_of_idle<R: Abort>(
     rt: &R,
     serving: &mut Serving,
@@ -146,7 +147,7 @@ fn expect_instead_of_idle<R: Abort>(
     Ok(())
 }
 
-/// Expects that a newcomer is accepted when the patience has run out, and not before.
+/// Expects that a new connection is accepted when the patience has run out, and not before.
 fn expect_instead_of_begun<R: Abort>(
     rt: &R,
     serving: &mut Serving,
@@ -159,7 +160,7 @@ fn expect_instead_of_begun<R: Abort>(
     expect_answer(rt, newcomer, serving, server, 1_010)
 }
 
-/// With one place a newcomer waits until the connection before it has ended.
+/// Expects that with one slot a new connection waits until the connection before it has ended.
 #[test]
 fn serves_one_after_another_with_one_place(rt: HostRuntime) -> Result<(), Fail> {
     let (mut serving, server, address) = serving(&rt, 1)?;
@@ -172,7 +173,7 @@ fn serves_one_after_another_with_one_place(rt: HostRuntime) -> Result<(), Fail> 
     expect_instead_of_the_first(&rt, &mut serving, &server, &mut second)
 }
 
-/// Expects that a newcomer is accepted once the first connection has ended.
+/// Expects that a new connection is accepted after the first one has ended.
 fn expect_instead_of_the_first<R: Abort>(
     rt: &R,
     serving: &mut Serving,
@@ -186,7 +187,7 @@ fn expect_instead_of_the_first<R: Abort>(
     expect_answer(rt, newcomer, serving, server, 3_600_001)
 }
 
-/// What comes behind the last message is dropped, and the connection closed after two seconds.
+/// Expects that the bytes after the last message are dropped, and that the connection is closed after two seconds.
 #[test]
 fn drains_for_two_seconds(rt: HostRuntime) -> Result<(), Fail> {
     let (mut serving, server, address) = serving(&rt, 2)?;
@@ -202,7 +203,7 @@ fn drains_for_two_seconds(rt: HostRuntime) -> Result<(), Fail> {
     expect_answer(&rt, &mut next, &mut serving, &server, 2_005)
 }
 
-/// Expects that a newcomer is accepted once it was waited for.
+/// Expects that a new connection is accepted after the server has waited for it.
 fn expect_one_more<R: Abort>(rt: &R, serving: &mut Serving, server: &Server) -> Result<(), Fail> {
     expect_turn(rt, serving, server, 2_004, (0, 1))?;
     serving.wait(2_004)?;

@@ -1,5 +1,4 @@
-//! Requests that are sent early on a connection that is kept: each has its turn once, and behind anything else the connection is made
-//! anew.
+//! Requests that are sent early on a kept connection. Each has its turn once. After anything else the connection is made anew.
 use super::peer::{Peer, expect, request, send, send_text};
 use client_sockets::Socket;
 use cog_client::Pieces;
@@ -10,10 +9,10 @@ use std::net::{Net, TcpStream};
 use std::process::Abort;
 use std::test::Fail;
 
-/// The last bytes that are asked for, one request behind another.
+/// The last bytes of the ranges that are asked for, one request after another.
 const LAST: [u64; 3] = [1999, 2999, 3999];
 
-/// The requests for them, which let the connection go on.
+/// Returns the requests for them, which let the connection go on.
 fn requests(alloc: Global) -> Result<[Vec<u8>; 3], Fail> {
     Ok([
         request(alloc, LAST[0], false)?,
@@ -22,7 +21,7 @@ fn requests(alloc: Global) -> Result<[Vec<u8>; 3], Fail> {
     ])
 }
 
-/// One exchange on a new connection that is kept, whose server's end is given.
+/// Makes one exchange on a new connection that is kept. Returns the server's end of it.
 fn open<R>(alloc: Global, peer: &Peer, socket: &mut Socket<'_, R>) -> Result<TcpStream, Fail>
 where
     R: Net<Stream = TcpStream> + AllocGlobal,
@@ -32,7 +31,7 @@ where
     peer.exchange_anew(alloc, socket, &mut [0; 1000])
 }
 
-/// These requests come on a connection, one behind another.
+/// Expects these requests on a connection, one after another.
 fn come(alloc: Global, stream: &mut TcpStream, requests: &[Vec<u8>]) -> Result<(), Fail> {
     for request in requests {
         let mut room = vec![in alloc; 0u8; request.len()]?;
@@ -44,7 +43,7 @@ fn come(alloc: Global, stream: &mut TcpStream, requests: &[Vec<u8>]) -> Result<(
     Ok(())
 }
 
-/// Answers requests one behind another. The texts of the answers.
+/// Answers requests one after another. Returns the texts of the answers.
 fn answer_each(
     peer: &Peer,
     stream: &mut TcpStream,
@@ -57,7 +56,8 @@ fn answer_each(
     ])
 }
 
-/// The requests behind the first one are started one after the other, and their answers are taken in pieces of 100 bytes and of any size.
+/// Takes the answer to the first request. Then starts the others one after the other, and takes their answers in pieces of 100 bytes and of
+/// any size.
 fn take_rest<R>(alloc: Global, socket: &mut Socket<'_, R>, texts: &[Vec<u8>; 3]) -> Result<(), Fail>
 where
     R: Net<Stream = TcpStream> + AllocGlobal,
@@ -69,7 +69,7 @@ where
     expect(alloc, socket, &mut [0; 16384], &texts[2])
 }
 
-/// The first request is sent, and those behind it early, in two times. They come, and are answered. The texts of the answers.
+/// Sends the first request, and the others early, in two steps. Expects that they come, and answers them. Returns the texts of the answers.
 fn send_all<R>(
     alloc: Global,
     peer: &Peer,
@@ -88,7 +88,8 @@ where
     answer_each(peer, stream, requests)
 }
 
-/// All requests are sent, two of them early, and then started: behind them no byte comes before the first one's next.
+/// Sends all requests, two of them early, and then starts each. Expects that no byte comes after them before the first request is sent
+/// again.
 fn start_each<R>(
     alloc: Global,
     peer: &Peer,
@@ -105,7 +106,7 @@ where
     come(alloc, stream, &requests[..1])
 }
 
-/// Two requests are sent early, and then started: no byte more is sent, and their answers are read in pieces of any size.
+/// Expects that two requests that were sent early are started without sending another byte. Their answers are read in pieces of any size.
 #[test]
 fn starts_what_was_sent_early_without_sending_it(rt: HostRuntime) -> Result<(), Fail> {
     let alloc = rt.alloc();
@@ -116,7 +117,7 @@ fn starts_what_was_sent_early_without_sending_it(rt: HostRuntime) -> Result<(), 
     start_each(alloc, &peer, &mut stream, &mut socket, &requests)
 }
 
-/// The first request is sent, and those behind it early. All are answered. The texts of the answers.
+/// Sends the first request, and the others early, and answers all. Returns the texts of the answers.
 fn answer_all<R>(
     alloc: Global,
     peer: &Peer,
@@ -133,7 +134,7 @@ where
     answer_each(peer, stream, requests)
 }
 
-/// The first answer is taken, and the last request started: it comes on a new connection, and its answer is taken.
+/// Takes the first answer, and starts the last request. Expects it on a new connection, and takes its answer.
 fn start_last<R>(
     rt: &(impl Abort + AllocGlobal),
     peer: &Peer,
@@ -151,7 +152,8 @@ where
     expect(alloc, socket, &mut [0; 16384], &texts[2])
 }
 
-/// Another request follows than the one that was sent early: the connection is made anew, and the answer is the other one's.
+/// Expects that the connection is made anew where another request follows than the one that was sent early. The answer is that to the other
+/// one.
 #[test]
 fn never_takes_the_answer_to_another_request(rt: HostRuntime) -> Result<(), Fail> {
     let alloc = rt.alloc();
@@ -163,7 +165,7 @@ fn never_takes_the_answer_to_another_request(rt: HostRuntime) -> Result<(), Fail
     start_last(&rt, &peer, &mut socket, &texts)
 }
 
-/// A request that ends the connection is sent, and others behind it early. Its answer says so.
+/// Sends a request that ends the connection, and others early after it. Expects an answer that says so.
 fn close<R>(
     alloc: Global,
     peer: &Peer,
@@ -181,7 +183,7 @@ where
     expect(alloc, socket, &mut [0; 16384], &closed)
 }
 
-/// A request that was sent early on a connection that ends is sent again, and exchanged on a new one.
+/// Sends a request again that was sent early on a connection that ends. Exchanges it on a new one.
 fn close_and_send_again<R>(
     alloc: Global,
     peer: &Peer,
@@ -198,7 +200,7 @@ where
     Ok(())
 }
 
-/// The answer says that the connection ends: what was sent early on it is sent again on a new one.
+/// Expects that requests that were sent early are sent again on a new connection, where the answer says that the old one ends.
 #[test]
 fn sends_again_what_was_sent_early_where_the_connection_ends(rt: HostRuntime) -> Result<(), Fail> {
     let alloc = rt.alloc();
@@ -210,7 +212,7 @@ fn sends_again_what_was_sent_early_where_the_connection_ends(rt: HostRuntime) ->
     close_and_send_again(alloc, &peer, &mut stream, &mut socket, &all[1..])
 }
 
-/// A request is sent first of all, and others behind it are told. It is exchanged on the connection that is given.
+/// Sends a request as the first of all, and gives the socket those that follow it. Exchanges it on a new connection, and returns that.
 fn open_telling<R>(
     alloc: Global,
     peer: &Peer,
@@ -226,7 +228,7 @@ where
     peer.exchange_anew(alloc, socket, &mut [0; 16384])
 }
 
-/// Requests are told before the first answer: no byte of them comes before the last one is sent.
+/// Gives the socket requests before the first answer. Expects that no byte of them comes before the last one is sent.
 fn tell_first<R>(
     alloc: Global,
     peer: &Peer,
@@ -242,7 +244,7 @@ where
     come(alloc, &mut stream, &all[2..])
 }
 
-/// Nothing is sent early on a connection that hasn't gone on behind an answer.
+/// Expects that nothing is sent early on a connection that hasn't gone on after an answer.
 #[test]
 fn sends_nothing_early_on_a_new_connection(rt: HostRuntime) -> Result<(), Fail> {
     let alloc = rt.alloc();

@@ -12,7 +12,7 @@ use std::net::{Net, TcpStream};
 use std::process::Abort;
 use std::test::Fail;
 
-/// A request is sent, whose answer is taken on a new connection, which is given.
+/// Sends a request, and takes its answer on a new connection. Returns the connection.
 fn begin<R>(alloc: Global, peer: &Peer, socket: &mut Socket<'_, R>) -> Result<TcpStream, Fail>
 where
     R: Net<Stream = TcpStream> + AllocGlobal,
@@ -21,7 +21,7 @@ where
     peer.exchange_anew(alloc, socket, &mut [0; 1000])
 }
 
-/// A request is sent, up to a last byte, whose answer is taken on this connection, in pieces for which there is this room.
+/// Sends a request up to the byte `last`, and takes its answer on this connection, in pieces that fit into `room`.
 fn go_on<R>(
     alloc: Global,
     peer: &Peer,
@@ -38,7 +38,7 @@ where
     peer.exchange(alloc, stream, socket, room)
 }
 
-/// Three answers on one connection, in pieces of at most 1,000 bytes, of one, and of 170.
+/// Takes three answers on one connection, in pieces of at most 1,000 bytes, of one, and of 170.
 fn exchange_in_turn<R>(alloc: Global, peer: &Peer, socket: &mut Socket<'_, R>) -> Result<(), Fail>
 where
     R: Net<Stream = TcpStream> + AllocGlobal,
@@ -48,7 +48,7 @@ where
     go_on(alloc, peer, &mut stream, socket, 29, &mut [0; 170])
 }
 
-/// Three answers, taken in pieces of at most 1,000 bytes, of one, and of 170, behind each of which a request is sent.
+/// Expects three answers on one connection, in pieces of at most 1,000 bytes, of one, and of 170. A request is sent after each.
 #[test]
 fn sends_requests_one_behind_another(rt: HostRuntime) -> Result<(), Fail> {
     let alloc = rt.alloc();
@@ -58,7 +58,7 @@ fn sends_requests_one_behind_another(rt: HostRuntime) -> Result<(), Fail> {
     exchange_in_turn(alloc, &peer, &mut socket)
 }
 
-/// A request that ends the connection is sent, whose answer says so. The connection.
+/// Sends a request that ends the connection, and takes the answer, which says so. Returns the connection.
 fn begin_closing<R>(
     alloc: Global,
     peer: &Peer,
@@ -71,7 +71,7 @@ where
     peer.exchange_anew(alloc, socket, &mut [0; 1000])
 }
 
-/// A connection that ends stays, and the next request comes on another.
+/// Leaves a connection that ends, and expects the next request on another.
 fn begin_behind_closing<R>(
     alloc: Global,
     peer: &Peer,
@@ -85,7 +85,7 @@ where
     Ok(())
 }
 
-/// An answer that says that the connection ends.
+/// Expects a new connection after an answer that says that the connection ends.
 #[test]
 fn connects_anew_behind_an_answer_that_closes(rt: HostRuntime) -> Result<(), Fail> {
     let alloc = rt.alloc();
@@ -95,7 +95,7 @@ fn connects_anew_behind_an_answer_that_closes(rt: HostRuntime) -> Result<(), Fai
     begin_behind_closing(alloc, &peer, &mut socket)
 }
 
-/// An answer of which the first bytes are read. The connection.
+/// Reads the first bytes of an answer. Returns the connection.
 fn begin_in_part<R>(
     rt: &(impl Abort + AllocGlobal),
     peer: &Peer,
@@ -111,7 +111,7 @@ where
     Ok(stream)
 }
 
-/// An answer without a length, whose end isn't waited for. The connection.
+/// Reads an answer without a length, and doesn't wait for its end. Returns the connection.
 fn begin_without_length<R>(
     rt: &(impl Abort + AllocGlobal),
     peer: &Peer,
@@ -128,7 +128,7 @@ where
     Ok(stream)
 }
 
-/// The connections of these two stay, and each request comes on another.
+/// Leaves the connections of these two, and expects each request on another.
 fn begin_behind_both<R>(
     rt: &(impl Abort + AllocGlobal),
     peer: &Peer,
@@ -143,7 +143,7 @@ where
     Ok(())
 }
 
-/// An answer that isn't read to its end, and one without a length, whose end isn't waited for.
+/// Expects a new connection after an answer that isn't read to its end, and after one without a length, whose end isn't waited for.
 #[test]
 fn connects_anew_behind_an_answer_without_an_end(rt: HostRuntime) -> Result<(), Fail> {
     let peer = Peer::new(&rt, f1(rt.alloc())?)?;

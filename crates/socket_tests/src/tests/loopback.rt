@@ -1,4 +1,4 @@
-//! A client and a server over sockets of one process: a request is sent, the connection is served, and the answer received.
+//! A client and a server over sockets of one process. A request is sent, the connection is served, and the answer is received.
 use super::peer::{Peer, arrived, send_text};
 use assertion_support::expect_eq;
 use client_report::picture;
@@ -15,7 +15,7 @@ use std::test::Fail;
 use text_report::info_text;
 use tiff_dir::Pick;
 
-/// A window of level 0.
+/// Makes a query of a window of level 0.
 fn window(x: u32, y: u32, w: u32, h: u32) -> Query {
     Query::Window {
         pick: Pick::Level(0),
@@ -38,7 +38,7 @@ fn serve(peer: &Peer) -> Result<(), Fail> {
     }
 }
 
-/// Sends a request, serves the connection, and gives what comes back.
+/// Sends a request, and serves the connection. Returns what comes back.
 fn carry<R>(rt: &R, peer: &Peer, request: &[u8]) -> Result<Vec<u8>, Fail>
 where
     R: Runtime + Abort + AllocGlobal + Net<Listener = TcpListener, Stream = TcpStream>,
@@ -60,7 +60,7 @@ fn take(client: &mut Client, answer: &[u8]) -> Result<(), Fail> {
     }
 }
 
-/// One exchange, if the client has a request. Whether it has.
+/// Makes one exchange, if the client has a request. Returns whether it has one.
 fn exchange<R>(rt: &R, peer: &Peer, client: &mut Client) -> Result<bool, Fail>
 where
     R: Runtime + Abort + AllocGlobal + Net<Listener = TcpListener, Stream = TcpStream>,
@@ -72,7 +72,7 @@ where
     Ok(true)
 }
 
-/// Asks a query, and exchanges until the client has no request any more. How many exchanges there were.
+/// Asks a query, and exchanges until the client has no further request. Returns how many exchanges there were.
 fn read<R>(rt: &R, peer: &Peer, client: &mut Client, query: Query) -> Result<usize, Fail>
 where
     R: Runtime + Abort + AllocGlobal + Net<Listener = TcpListener, Stream = TcpStream>,
@@ -86,7 +86,7 @@ where
     Ok(3)
 }
 
-/// A report as users see it.
+/// Returns a report as users see it.
 fn text_of(alloc: Global, report: Option<&Report>) -> Result<Vec<u8>, Fail> {
     let report = report.ok_or("no report")?;
     match &report.outcome {
@@ -96,7 +96,7 @@ fn text_of(alloc: Global, report: Option<&Report>) -> Result<Vec<u8>, Fail> {
     }
 }
 
-/// Expects that a query is answered by so many exchanges, and by a report of this text.
+/// Expects that a query is answered by `count` exchanges, and by a report of this text.
 fn expect_text<R>(
     rt: &R,
     peer: &Peer,
@@ -138,7 +138,7 @@ fn reads_windows_over_a_socket(rt: HostRuntime) -> Result<(), Fail> {
     expect_windows(&rt, &peer, &mut client)
 }
 
-/// The info of f3.
+/// The text of Info of f3.
 const INFO: &[u8] = b"tag \"1-1\"\nlevel 0 32 32\nlevel 1 16 16\nminor 0\nkey 1024 short 2\n\
     key 1026 ascii WGS 84|\nkey 2057 doubles 0102030405060708\n\
     scale 3ff0000000000000 3ff0000000000000 3ff0000000000000\n";
@@ -160,10 +160,10 @@ fn reads_info_over_a_socket(rt: HostRuntime) -> Result<(), Fail> {
     expect_info(&rt, &peer, &mut client)
 }
 
-/// A request of no server.
+/// A request that no server gets.
 const REQUEST: &[u8] = b"GET / HTTP/1.1\r\n\r\n";
 
-/// Where nobody listens, each exchange is lost, and counted.
+/// Expects that each exchange is lost, and counted, where nobody listens.
 #[test]
 fn loses_each_exchange_where_nobody_listens(rt: HostRuntime) {
     let mut socket = Socket::new(&rt, "127.0.0.1:1");

@@ -10,14 +10,14 @@ use std::io::{Read, Write};
 use std::net::{Net, TcpListener, TcpStream};
 use std::test::Fail;
 
-/// A server that has a file as `a` in epoch 1.
+/// Makes a server that has a file as `a` in epoch 1.
 fn server_of(alloc: Global, file: Vec<u8>) -> Result<Server, Fail> {
     let mut server = Server::new(alloc, 1);
     server.publish(b"a", file)?;
     Ok(server)
 }
 
-/// A server, where it listens, and that place as `HOST:PORT`.
+/// A server, its listener, and the listener's address as `HOST:PORT`.
 #[derive(Drop)]
 pub struct Peer {
     pub server: Server,
@@ -26,7 +26,7 @@ pub struct Peer {
 }
 
 impl Peer {
-    /// One that has a file as `a` in epoch 1.
+    /// Makes a peer that has a file as `a` in epoch 1.
     pub fn new<R>(rt: &R, file: Vec<u8>) -> Result<Peer, Fail>
     where
         R: Net<Listener = TcpListener, Stream = TcpStream> + AllocGlobal,
@@ -41,27 +41,27 @@ impl Peer {
         })
     }
 
-    /// The next connection.
+    /// Accepts the next connection.
     pub fn accept(&self) -> Result<TcpStream, Fail> {
         let (stream, _) = self.listener.accept()?;
         Ok(stream)
     }
 
-    /// Answers a request on a connection. The text of the answer.
+    /// Answers a request on a connection. Returns the text of the answer.
     pub fn answer_to(&self, stream: &mut TcpStream, request: &[u8]) -> Result<Vec<u8>, Fail> {
         let answer = self.server.answer(request)?;
         stream.write_all(&answer.text)?;
         Ok(answer.text)
     }
 
-    /// Reads a request on a connection and answers it. The text of the answer.
+    /// Reads a request on a connection, and answers it. Returns the text of the answer.
     pub fn answer(&self, stream: &mut TcpStream) -> Result<Vec<u8>, Fail> {
         let mut room = [0u8; 1000];
         let count = stream.read(&mut room)?;
         self.answer_to(stream, &room[..count])
     }
 
-    /// Answers what came on a connection. The same comes over the socket, in pieces for which there is this room.
+    /// Answers what came on a connection. Expects that the same comes over the socket, in pieces that fit into `room`.
     pub fn exchange<P: Pieces>(
         &self,
         alloc: Global,
@@ -75,7 +75,8 @@ impl Peer {
         expect(alloc, socket, room, &text)
     }
 
-    /// Answers what came on a new connection, which is given. The same comes over the socket, in pieces for which there is this room.
+    /// Answers what came on a new connection, and returns that. Expects that the same comes over the socket, in pieces that fit into
+    /// `room`.
     pub fn exchange_anew<P: Pieces>(
         &self,
         alloc: Global,
@@ -90,7 +91,7 @@ impl Peer {
     }
 }
 
-/// The request for the first bytes of the file `a`, up to a last one, which ends the connection or doesn't.
+/// Returns the request for the bytes of the file `a` up to `last`. It ends the connection or doesn't.
 pub fn request(alloc: Global, last: u64, closes: bool) -> Result<Vec<u8>, Fail> {
     let span = Span { first: 0, last };
     if closes {
@@ -108,7 +109,7 @@ where
     socket.send(request).map_err(|_| Fail::new("not sent"))
 }
 
-/// Sends the request for the first bytes up to a last one, which doesn't end the connection.
+/// Sends the request for the bytes up to `last`, which doesn't end the connection.
 pub fn send<R>(alloc: Global, socket: &mut Socket<'_, R>, last: u64) -> Result<(), Fail>
 where
     R: Net<Stream = TcpStream> + AllocGlobal,
@@ -116,7 +117,7 @@ where
     send_text(socket, &request(alloc, last, false)?)
 }
 
-/// The bytes that come of an answer, in pieces for which there is this room.
+/// Returns the bytes that come of an answer, in pieces that fit into `room`.
 pub fn arrived<P: Pieces>(alloc: Global, socket: &mut P, room: &mut [u8]) -> Result<Vec<u8>, Fail>
     requires { 0 < length room.old }
 {
@@ -131,7 +132,7 @@ pub fn arrived<P: Pieces>(alloc: Global, socket: &mut P, room: &mut [u8]) -> Res
     Err(Fail::new("nothing came"))
 }
 
-/// Just this answer comes, in pieces for which there is this room.
+/// Expects that exactly this answer comes, in pieces that fit into `room`.
 pub fn expect<P: Pieces>(
     alloc: Global,
     socket: &mut P,

@@ -9,7 +9,7 @@ use std::test::Fail;
 use text_report::{ExplainedFault, FaultSentence, WayOut, found_value};
 use tiff_dir::FileFault;
 
-/// Faults about no field, and what is told of them.
+/// A row has a fault that is about no field, and its sentence.
 #[rattlefmt::skip]
 const FAULTS: [(FileFault, &str); 15] = [
     (FileFault::Header, "no classic TIFF: the byte order or the number 42 is wrong"),
@@ -29,7 +29,7 @@ const FAULTS: [(FileFault, &str); 15] = [
     (FileFault::KeyPlace, "a geo key's values aren't where it says"),
 ];
 
-/// Faults about each field, and about one that has no name here.
+/// Rows of faults about each field, and about one that has no name here.
 #[rattlefmt::skip]
 const FIELDS: [(FileFault, &str); 22] = [
     (FileFault::FieldType(254), "NewSubfileType (254) has another type or count than it is to have"),
@@ -56,16 +56,16 @@ const FIELDS: [(FileFault, &str); 22] = [
     (FileFault::Unsupported(700), "the field (700) has another value: such a value isn't read"),
 ];
 
-/// What stands before and after the options of the conversion that helps.
+/// The text before and after the options of the conversion that helps.
 const CONVERT: &str = "Convert it: gdal_translate -co TILED=YES -co COMPRESS=PACKBITS";
 
 const FILES: &str = " in.tif out.tif";
 
-/// What the words of a conversion begin with that needs the least and the greatest value of a file.
+/// The beginning of the words of a conversion that needs the least and the greatest value of a file.
 const CONVERT_SCALED: &str =
     "Convert it, with MIN and MAX from gdalinfo -mm: gdal_translate -co TILED=YES -co COMPRESS=PACKBITS";
 
-/// Faults, the value that was found, and the options that the conversion wants then (gdal_translate and the driver GTiff of GDAL).
+/// A row has a fault, the value that was found, and the options of the conversion (`gdal_translate` and the driver GTiff of GDAL).
 #[rattlefmt::skip]
 const OPTIONS: [(FileFault, Option<u64>, &str); 24] = [
     (FileFault::Header, None, " -co BIGTIFF=NO"),
@@ -94,7 +94,7 @@ const OPTIONS: [(FileFault, Option<u64>, &str); 24] = [
     (FileFault::KeyPlace, None, ""),
 ];
 
-/// Faults whose conversion needs the least and the greatest value, and the value that was found.
+/// A row has a fault whose conversion needs the least and the greatest value, and the value that was found.
 const SCALED: [(FileFault, Option<u64>); 4] = [
     (FileFault::Unsupported(258), None),
     (FileFault::Unsupported(258), Some(32)),
@@ -102,7 +102,7 @@ const SCALED: [(FileFault, Option<u64>); 4] = [
     (FileFault::Unsupported(339), Some(3)),
 ];
 
-/// Faults against which no conversion helps, and what does.
+/// A row has a fault against which no conversion helps, and what does help.
 #[rattlefmt::skip]
 const WAYS: [(FileFault, &str); 3] = [
     (FileFault::PastEnd, "Copy it anew: it was cut, or isn't written to its end"),
@@ -110,7 +110,7 @@ const WAYS: [(FileFault, &str); 3] = [
     (FileFault::TooLarge, "Ask for less: by --columns C, --level N, or in several windows"),
 ];
 
-/// Faults, the value that was found, and the line that explains each.
+/// A row has a fault, the value that was found, and the line that explains it.
 #[rattlefmt::skip]
 const EXPLAINED: [(FileFault, Option<u64>, &str); 5] = [
     (
@@ -145,7 +145,7 @@ const EXPLAINED: [(FileFault, Option<u64>, &str); 5] = [
     ),
 ];
 
-/// Answers that aren't used, and what is told of them.
+/// A row has a reason why an answer isn't used, and its sentence.
 #[rattlefmt::skip]
 const REASONS: [(Why, &str); 19] = [
     (Why::Status(301), "301: the file is elsewhere, and redirections aren't followed"),
@@ -219,7 +219,7 @@ fn explains_faults(rt: HostRuntime) -> Result<(), Fail> {
     Ok(())
 }
 
-/// The file f1 with this compression, at byte 54.
+/// Returns the file f1 with this compression, at byte 54.
 fn file_of(alloc: Global, compression: u8) -> Result<Vec<u8>, AllocError> {
     let mut file = f1(alloc)?;
     if let Some(place) = file.get_mut(54) {
@@ -228,7 +228,7 @@ fn file_of(alloc: Global, compression: u8) -> Result<Vec<u8>, AllocError> {
     Ok(file)
 }
 
-/// The value that explains a fault of f1 with this compression.
+/// Returns the value that explains a fault of f1 with this compression.
 fn value_of(alloc: Global, compression: u8, fault: FileFault) -> Result<Option<u64>, AllocError> {
     let file = file_of(alloc, compression)?;
     let explained = ExplainedFault::of(alloc, fault, &WholeFile(&file), &[])?;

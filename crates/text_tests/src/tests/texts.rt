@@ -11,7 +11,7 @@ use text_report::info_text;
 use tiff_dir::Pick;
 use transports::{InMemory, server_of_one};
 
-/// The report of a query of a file, which is published as `a` in epoch 1.
+/// Returns the report of a query of a file, which is published as `a` in epoch 1.
 fn report_of(alloc: Global, file: Vec<u8>, query: Query) -> Result<Report, Fail> {
     let server = server_of_one(alloc, 1, b"a", file)?;
     let mut client = Client::new(alloc, b"cog.test", b"a", 66)?;
@@ -23,7 +23,7 @@ fn report_of(alloc: Global, file: Vec<u8>, query: Query) -> Result<Report, Fail>
     }
 }
 
-/// The picture of a window of level 0.
+/// Returns the picture of a window of level 0.
 fn picture_of(
     alloc: Global,
     file: Vec<u8>,
@@ -69,7 +69,7 @@ fn writes_three_samples_to_a_pixel_as_p6(rt: HostRuntime) -> Result<(), Fail> {
     Ok(())
 }
 
-/// The text of what Info tells of a file.
+/// Returns the text of Info of a file.
 fn text_of(alloc: Global, file: Vec<u8>) -> Result<Vec<u8>, Fail> {
     let report = report_of(alloc, file, Query::Info)?;
     match &report.outcome {
@@ -78,7 +78,7 @@ fn text_of(alloc: Global, file: Vec<u8>) -> Result<Vec<u8>, Fail> {
     }
 }
 
-/// What Info tells of f3, but for the last line.
+/// The text of Info of f3, without the last line.
 const KEYS_OF_F3: &str = "\
 tag \"1-1\"
 level 0 32 32
@@ -105,7 +105,7 @@ fn writes_levels_and_keys_and_scale(rt: HostRuntime) -> Result<(), Fail> {
     Ok(())
 }
 
-/// The field of the scale has another tag and a type that isn't known.
+/// Expects no scale where its field has another tag, and a type that isn't known.
 #[test]
 fn leaves_out_a_scale_that_is_not_there(rt: HostRuntime) -> Result<(), Fail> {
     let alloc = rt.alloc();
@@ -120,7 +120,7 @@ fn leaves_out_a_scale_that_is_not_there(rt: HostRuntime) -> Result<(), Fail> {
     Ok(())
 }
 
-/// A key of each kind, with bytes that aren't printable, and the other model fields.
+/// Expects the text of a key of each kind, with bytes that aren't printable, and of the other model fields.
 #[test]
 fn escapes_bytes_that_are_not_printable(rt: HostRuntime) -> Result<(), Fail> {
     let alloc = rt.alloc();

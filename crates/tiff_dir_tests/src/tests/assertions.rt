@@ -1,4 +1,4 @@
-//! What is told of two values that are to be equal.
+//! What is printed of two values that should be equal.
 use assertion_support::difference;
 use std::process::Abort;
 use std::test::Fail;

@@ -1,4 +1,4 @@
-//! Chains of directories: levels and those that are passed over.
+//! Chains of directories: levels, and directories that are passed over.
 use super::{Entry, begun, course_of, end_of, fault_of, fields, file_with, put_directory};
 use assertion_support::expect_eq;
 use reference_support::Course;
@@ -6,7 +6,7 @@ use std::process::Abort;
 use std::test::Fail;
 use tiff_dir::{FileFault, Order};
 
-/// A file of a level of 32 by 32 samples, and then as many directories with these entries.
+/// Returns a file with a level of 32 by 32 samples, and then `count` directories with these entries.
 fn followed_by(
     rt: &impl AllocGlobal,
     entries: &[Entry],
@@ -99,7 +99,7 @@ fn refuses_a_level_not_smaller_than_the_one_before(rt: HostRuntime) -> Result<()
     Ok(())
 }
 
-/// Expects the fault of a level and a directory of these entries behind it.
+/// Expects the fault of a level and a directory of these entries after it.
 fn expect_second<R: Abort + AllocGlobal>(
     rt: &R,
     entries: &[Entry],
@@ -111,7 +111,7 @@ fn expect_second<R: Abort + AllocGlobal>(
     Ok(())
 }
 
-// Each file has a later fault of the order of the checks too.
+// Each file also has a fault that comes later in the order of the checks.
 #[test]
 fn checks_order_and_subfile_alone_of_other_directories(rt: HostRuntime) -> Result<(), Fail> {
     let double = [(254, 4, 1, 4), (254, 4, 1, 4)];

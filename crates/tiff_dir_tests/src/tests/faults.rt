@@ -1,4 +1,4 @@
-//! The faults of headers, tables and levels, in the order in which they are told.
+//! The faults of headers, tables and levels, in the order in which they are reported.
 use super::{Entry, begun, fault_of, fields, file_with, put_directory};
 use assertion_support::expect_eq;
 use std::process::Abort;
@@ -9,10 +9,10 @@ use tiff_dir::FileFault::{
 };
 use tiff_dir::{FileFault, Order};
 
-/// Changes of a file of one level, and the fault that is told of it.
+/// A row has changes of a file of one level, and the fault that is reported.
 type Faulty = (&'static [Entry], FileFault);
 
-// Each row has a later one of the order of the checks too.
+// Each row also has a fault that comes later in the order of the checks.
 #[rattlefmt::skip]
 const FAULTS: [Faulty; 41] = [
     (&[(254, 3, 1, 1)], FieldType(254)),
@@ -58,7 +58,8 @@ const FAULTS: [Faulty; 41] = [
     (&[(322, 3, 1, 1024), (323, 3, 1, 1040), (324, 4, 2, 0)], TileSize),
 ];
 
-/// A file of one level with changes, the place of the next directory, some bytes behind this one, and the fault that is told.
+/// A row has changes of a file of one level, the place of the next directory, and some bytes after this one. Then comes the fault that is
+/// reported.
 type Row = (&'static [Entry], u32, &'static [u8], Option<FileFault>);
 
 #[rattlefmt::skip]
@@ -111,8 +112,8 @@ fn tells_the_first_fault_of_a_level(rt: HostRuntime) -> Result<(), Fail> {
     Ok(())
 }
 
-/// Where BitsPerSample stands, the count of SampleFormat and where it stands, what follows the directory, which ends at 158, and the
-/// fault.
+/// A row has the place of BitsPerSample, and the count and the place of SampleFormat. Then come what follows the directory, which ends at
+/// 158, and the fault.
 #[rattlefmt::skip]
 const OUTSIDE: [(u32, u32, u32, &[u8], Option<FileFault>); 10] = [
     (158, 3, 164, &[8, 0, 8, 0, 8, 0, 1, 0, 1, 0, 1, 0], None),
@@ -127,7 +128,7 @@ const OUTSIDE: [(u32, u32, u32, &[u8], Option<FileFault>); 10] = [
     (158, 3, 158, &[8, 0, 8, 0, 8, 0], Some(Unsupported(339))),
 ];
 
-// Three samples, whose BitsPerSample and SampleFormat stand outside their entries.
+// There are three samples, whose BitsPerSample and SampleFormat stand outside their entries.
 #[test]
 fn tells_the_first_fault_of_outside_values(rt: HostRuntime) -> Result<(), Fail> {
     for (bits, count, formats, tail, want) in OUTSIDE {

@@ -5,7 +5,7 @@ use fixtures_support::f3;
 use std::test::Fail;
 use tiff_dir::{FileFault, GeoPlaces, Kind, Order};
 
-/// The fault or the places that a walk over the file tells of its geo fields.
+/// Returns the fault or the places of the geo fields, from a walk over the file.
 fn places_of(rt: &impl AllocGlobal, file: &[u8]) -> Result<Result<GeoPlaces, FileFault>, Fail> {
     match end_of(rt, file)? {
         Ok(walk) => Ok(walk.geo_places()),
@@ -13,7 +13,7 @@ fn places_of(rt: &impl AllocGlobal, file: &[u8]) -> Result<Result<GeoPlaces, Fil
     }
 }
 
-/// A file of one level with these fields behind its own.
+/// Returns a file of one level with these fields after its own.
 fn with_geo(rt: &impl AllocGlobal, geo: &[Entry]) -> Result<Vec<u8>, Fail> {
     let mut entries = fields(rt, &[])?;
     for entry in geo {
@@ -70,10 +70,10 @@ fn finds_geo_values_in_their_entry(rt: HostRuntime) -> Result<(), Fail> {
     Ok(())
 }
 
-/// Geo fields, and the fault that is told of them first.
+/// A row has geo fields, and the fault that is reported first.
 type GeoRow = (&'static [Entry], Option<FileFault>);
 
-// Each row with a fault has a later one of the order of the checks too.
+// Each row with a fault also has one that comes later in the order of the checks.
 #[rattlefmt::skip]
 const GEO_ROWS: [GeoRow; 18] = [
     (&[(33922, 12, 12, 0), (34264, 12, 16, 0)], None),

@@ -8,14 +8,14 @@ use reference_support::{Next, take_next};
 use std::test::Fail;
 use tiff_dir::{FileFault, Memory, Walk};
 
-/// Whether the walk has ended, by what it wants of a file of any length.
+/// Returns whether the walk has ended, by what it wants of a file of any length.
 fn has_ended(walk: &Walk) -> bool
     ensures { IsTrue result → HasEnded walk.now }
 {
     matches!(walk.need(u64::MAX), Ok(None))
 }
 
-/// How many levels a walk has that has ended.
+/// Returns how many levels a walk has, if it has ended.
 fn level_count(walk: &Walk) -> Option<usize> {
     if has_ended(walk) {
         Some(walk.levels().len())
@@ -49,7 +49,7 @@ fn stays_as_before_after_a_fault(rt: HostRuntime) -> Result<(), Fail> {
     Ok(())
 }
 
-// Passes whether memory is there or refused once: after the refusal the walk goes on from where it was.
+// Passes with ample memory, and wherever memory is refused once. After the refusal the walk goes on from where it was.
 #[test]
 fn goes_on_after_a_refusal_for_memory(rt: HostRuntime) -> Result<(), Fail> {
     let Ok(file) = f1(rt.alloc()) else {

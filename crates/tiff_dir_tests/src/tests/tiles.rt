@@ -1,4 +1,4 @@
-//! Where tiles stand, by the arrays of their level.
+//! The places of tiles, by the arrays of their level.
 use super::{Entry, begun, end_of, fields, put_directory, put_long, put_short};
 use assertion_support::expect_eq;
 use fixtures_support::{f1, f1m, f3, f4};
@@ -6,14 +6,14 @@ use std::process::Abort;
 use std::test::Fail;
 use tiff_dir::{Level, Order, Place, tile_of};
 
-/// The bytes of an array.
+/// Returns the bytes of an array.
 fn array(file: &[u8], place: Place) -> Option<&[u8]> {
     let first = usize::try_from(place.first).ok()?;
     let len = usize::try_from(place.len).ok()?;
     file.get(first..first.checked_add(len)?)
 }
 
-/// The place of tile `t` of a level, by the file's arrays.
+/// Returns the place of tile `t` of a level, by the file's arrays.
 fn tile(file: &[u8], order: Order, level: &Level, t: u32) -> Option<(u32, u32)> {
     let offsets = array(file, level.offsets)?;
     let counts = array(file, level.counts)?;
@@ -36,7 +36,7 @@ fn expect_tiles<R: Abort + AllocGlobal>(
     match end_of(rt, file)? {
         Ok(walk) => {
             let level = walk.levels().get(n).ok_or("no level")?;
-            // Not a call: below it is known that they are equal.
+            // This is no call: below it is known that they are equal.
             assert_eq!(rt; level.offsets.count as usize, want.len());
             for (t, place) in want.iter().enumerate() {
                 expect_eq!(rt;
@@ -106,7 +106,7 @@ fn finds_many_tiles_in_both_orders(rt: HostRuntime) -> Result<(), Fail> {
     Ok(())
 }
 
-// 20 by 18 pixels of three samples, with values outside their entries.
+// The fields of 20 by 18 pixels of three samples, with values outside their entries.
 const COLOURS: [Entry; 10] = [
     (256, 3, 1, 20),
     (257, 3, 1, 18),

@@ -7,7 +7,7 @@ use std::process::Abort;
 use std::test::Fail;
 use tiff_dir::{Codec, Compression, FileFault, Kind, Level, Order, Span, Walk};
 
-/// Whether these are the ranges, each by its first and its last byte.
+/// Returns whether these are the ranges, each by its first and its last byte.
 fn are_ranges(ranges: &[Span], want: &[(u64, u64)]) -> bool {
     ranges.len() == want.len()
         && ranges
@@ -16,7 +16,7 @@ fn are_ranges(ranges: &[Span], want: &[(u64, u64)]) -> bool {
             .all(|(span, want)| (span.first, span.last) == *want)
 }
 
-/// The levels of a file without fault, and the ranges that a walk over it took.
+/// Returns the levels of a file without faults, and the ranges that a walk over it took.
 fn levels_of<R: Abort + AllocGlobal>(
     rt: &R,
     file: &[u8],

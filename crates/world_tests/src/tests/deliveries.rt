@@ -30,8 +30,8 @@ const LATE_PART: Course = ("f2.tif", &[
     ("deliver 0 0 -", "delivered 0 ignored 10"),
 ]);
 
-/// The first answer, whose head has 171 bytes, is cut: in its head, before the end of its first block, and after it. A cut
-/// past its end is none.
+/// The first answer, whose head has 171 bytes, is cut in its head, before the end of its first block, and after it. A cut past its end is
+/// none.
 #[rattlefmt::skip]
 const CUT_ANSWERS: Course = ("f2.tif", &[
     ("client a 66", "client 0"),
@@ -56,8 +56,8 @@ const CUT_ANSWERS: Course = ("f2.tif", &[
     ("askfrom 3", "asked 3 65536-67705 \"1-1\" answer 7 206 2170"),
 ]);
 
-/// The answers to a GET and a HEAD of `/b` aren't delivered to a client of `a`, and one to `/c`, which no file has, is; neither
-/// is an answer that wasn't sent, nor one to a client that isn't there.
+/// The answers to a GET and a HEAD of `/b` aren't delivered to a client of `a`. One to `/c`, which no file has, is delivered. An answer
+/// that wasn't sent isn't delivered, nor one to a client that isn't there.
 #[rattlefmt::skip]
 const OTHER_NAMES: Course = ("f1.tif", &[
     ("publish b f2.tif", "published \"1-2\""),
@@ -78,7 +78,7 @@ const OTHER_NAMES: Course = ("f1.tif", &[
     ("askfrom 1", "skipped"),
 ]);
 
-/// Answers of each status that isn't used, to messages that others sent, and the head of the file without its bytes: that tells the
+/// Answers of each status that isn't used, to messages that others sent, and the head of the file without its bytes. That head brings the
 /// revision, and no block of it.
 #[rattlefmt::skip]
 const OTHER_STATUSES: Course = ("f1.tif", &[
@@ -116,7 +116,7 @@ const OPENED_BETWEEN: Course = ("f2.tif", &[
     ("askfrom 0", "asked 0 nothing\nreport 0 \"1-1\" window 1 1 1 00"),
 ]);
 
-/// Checks of a client without a revision, of the file that it reads, of another one in its place, and of none.
+/// Checks of a client without a revision, of the file that it reads, of another one that replaced it, and of none.
 #[rattlefmt::skip]
 const CHECKS: Course = ("f1.tif", &[
     ("client a 66", "client 0"),
@@ -131,7 +131,7 @@ const CHECKS: Course = ("f1.tif", &[
     ("check 1", "skipped"),
 ]);
 
-/// A tile that is packed in no way is a fault of a window of its level alone.
+/// A tile that isn't packed in any way is a fault of a window of its level alone.
 #[rattlefmt::skip]
 const DAMAGED_TILE: Course = ("damaged.tif", &[
     ("client a 66", "client 0"),
@@ -186,7 +186,7 @@ fn reports_a_damaged_tile_for_its_level_alone(rt: HostRuntime) -> Result<(), Fai
     expect_course(&rt, DAMAGED_TILE)
 }
 
-/// The last request of the client to which answers came late brings the report.
+/// Expects that the last request of the client to which answers came late brings the report.
 #[test]
 fn reports_after_late_answers_and_a_restart(rt: HostRuntime) -> Result<(), Fail> {
     let alloc = rt.alloc();
@@ -201,8 +201,8 @@ fn reports_after_late_answers_and_a_restart(rt: HostRuntime) -> Result<(), Fail>
     expect(&rt, script.as_str(), log.as_str())
 }
 
-/// The samples of f3's levels as digits, row by row: of the second level each row has its number, of the first each tile its own
-/// value.
+/// Returns the samples of f3's levels as digits, row by row. In the second level each row has its number, and in the first each tile has
+/// its own value.
 fn digits_of_levels(alloc: Global) -> Result<(String, String), Fail> {
     let mut second = String::new(alloc);
     for y in 0..16u8 {

@@ -1,5 +1,5 @@
-//! Faithful stretches: whatever was before, a client that opens a query and then exchanges, with nothing between, has its
-//! report by the exchange after as many as the query costs.
+//! Faithful stretches: a client opens a query and then exchanges, with nothing between. Whatever was before, it has its report at the
+//! latest with the exchange after as many as the query costs.
 use super::log_of;
 use assertion_support::expect_eq;
 use fixtures_support::{f1, f1m, f2, f2b, f3, f4, f6, f6m};
@@ -21,34 +21,34 @@ exchange 0
 exchange 0
 ";
 
-/// What is before it; `a` is f2 or f2b then.
+/// Scripts before the stretch, after which `a` is f2 or f2b.
 const BEFORE: [&str; 16] = [
-    // nothing but the file
+    // Nothing but the file.
     "epoch 1\npublish a f2.tif\nclient a 66\n",
     "epoch 1\npublish a f2b.tif\nclient a 4096\n",
-    // one exchange, and both
+    // One exchange, and both.
     "epoch 1\npublish a f2.tif\nclient a 66\nopen 0 level 0 240 240 16 16\nexchange 0\n",
     "epoch 1\npublish a f2.tif\nclient a 66\nopen 0 level 0 240 240 16 16\nexchange 0\nexchange 0\n",
-    // replaced between: before the next exchange, after the restart, with the late answer ignored, and after the report
+    // Replaced between: before the next exchange, after the restart, with the late answer ignored, and after the report.
     "epoch 1\npublish a f2.tif\nclient a 66\nopen 0 level 0 240 240 16 16\nexchange 0\npublish a f2b.tif\n",
     "epoch 1\npublish a f2.tif\nclient a 66\nopen 0 level 0 240 240 16 16\nexchange 0\npublish a f2b.tif\nexchange 0\n",
     "epoch 1\npublish a f2.tif\nclient a 66\nopen 0 level 0 240 240 16 16\nexchange 0\npublish a f2b.tif\nexchange 0\ndeliver 0 0 -\n",
     "epoch 1\npublish a f2.tif\nclient a 66\nopen 0 level 0 240 240 16 16\nexchange 0\npublish a f2b.tif\nexchange 0\nexchange 0\n",
-    // cut in its head, before the end of its first block, and after it
+    // Cut in its head, before the end of its first block, and after it.
     "epoch 1\npublish a f2.tif\nclient a 66\nopen 0 level 0 240 240 16 16\naskfrom 0\ndeliver 0 0 170\n",
     "epoch 1\npublish a f2.tif\nclient a 66\nopen 0 level 0 240 240 16 16\naskfrom 0\ndeliver 0 0 16554\n",
     "epoch 1\npublish a f2.tif\nclient a 66\nopen 0 level 0 240 240 16 16\naskfrom 0\ndeliver 0 0 16555\n",
-    // a later epoch, before and after the restart
+    // A later epoch, before and after the restart.
     "epoch 1\nepoch 1\npublish a f2.tif\nclient a 66\nopen 0 level 0 240 240 16 16\nexchange 0\nepoch 2\npublish a f2.tif\n",
     "epoch 1\nepoch 1\npublish a f2.tif\nclient a 66\nopen 0 level 0 240 240 16 16\nexchange 0\nepoch 2\npublish a f2.tif\nexchange 0\n",
-    // forgotten, and another query with the first answer again
+    // Forgotten, and another query with the first answer again.
     "epoch 1\npublish a f2.tif\nclient a 66\nopen 0 level 0 240 240 16 16\nexchange 0\nforget 0\n",
     "epoch 1\npublish a f2.tif\nclient a 66\nopen 0 level 0 240 240 16 16\nexchange 0\nopen 0 level 0 0 0 1 1\ndeliver 0 0 -\n",
-    // answers to requests that others made, after the revision was replaced
+    // Answers to requests that others made, after the revision was replaced.
     "epoch 1\npublish a f2.tif\nclient a 66\nopen 0 level 0 240 240 16 16\nexchange 0\nask 474554202f6120485454502f312e310d0a486f73743a20680d0a0d0a\npublish a f2b.tif\naskfrom 0\ndeliver 0 2 -\naskfrom 0\ndeliver 0 1 -\ndeliver 0 3 -\nexchange 0\n",
 ];
 
-/// Whether a report is told in one of the last so many entries.
+/// Returns whether one of the last `count` entries has a report.
 fn is_told(log: &Log, count: usize) -> bool {
     log.entries
         .iter()
@@ -57,7 +57,7 @@ fn is_told(log: &Log, count: usize) -> bool {
         .any(|entry| entry.report.is_some())
 }
 
-/// Whether the report comes in the stretch after a script.
+/// Returns whether the report comes in the stretch after a script.
 fn is_reached_after(alloc: Global, before: &str) -> Result<bool, Fail> {
     let mut text = Vec::from_slice(alloc, before.as_bytes())?;
     text.extend_from_slice(STRETCH.as_bytes())?;
@@ -74,7 +74,7 @@ fn reports_within_the_cost_whatever_was_before(rt: HostRuntime) -> Result<(), Fa
     Ok(())
 }
 
-/// Windows of level 0, and one by columns at the end: left, top, columns and rows.
+/// Windows of level 0: left, top, columns and rows.
 const WINDOWS: [[u32; 4]; 9] = [
     [0, 0, 1, 1],
     [0, 0, 16, 16],
@@ -87,7 +87,8 @@ const WINDOWS: [[u32; 4]; 9] = [
     [4294967295, 0, 2, 1],
 ];
 
-/// Whether a client's report of a file comes by the exchange after as many as the query costs by the plain program.
+/// Returns whether a client's report of a file comes in time. That is at the latest with the exchange after as many as the query costs by
+/// the plain program.
 fn is_reached(alloc: Global, file: &[u8], query: Query, blocks: u32) -> Result<bool, Fail> {
     let cost = cost(alloc, file, query)?.ok_or("no cost")?;
     let mut events = Vec::new(alloc);
@@ -108,7 +109,7 @@ fn is_reached(alloc: Global, file: &[u8], query: Query, blocks: u32) -> Result<b
     Ok(is_told(&log, events.len()))
 }
 
-/// The first of ten windows of a file and Info that isn't reached.
+/// Returns the first of ten windows of a file and Info that isn't reached.
 fn unreached(alloc: Global, file: &[u8]) -> Result<Option<Query>, Fail> {
     for [x, y, w, h] in WINDOWS {
         let pick = Pick::Level(0);

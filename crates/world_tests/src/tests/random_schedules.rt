@@ -1,6 +1,7 @@
-//! Schedules at random, of several clients and names, with files that are replaced, servers that are restarted, and answers that
-//! are lost, cut, repeated or late: each report is what the plain program reads in the file of its tag, and in a faithful stretch
-//! at the end one comes by the exchange after as many as the query costs. Answers that come in pieces give the same log.
+//! Random schedules of several clients and names. Files are replaced, servers are restarted, and answers are lost, cut, repeated or late.
+//!
+//! Each report is what the plain program reads in the file of its tag. In a faithful stretch at the end a report comes at the latest with
+//! the exchange after as many as the query costs. Answers that come in pieces give the same log.
 ghost use Rattle.std.specs.Prelude.{◌<◌};
 
 use super::is_log_of_pieces;
@@ -13,7 +14,7 @@ use std::test::Fail;
 use tiff_dir::{Pick, Query};
 use world::{Effect, Event, Log, Report, run};
 
-/// The files that are published, with what the plain program reads in them.
+/// Returns the files that are published, with what the plain program reads in them.
 fn plain_files(alloc: Global) -> Result<Vec<Plain>, Fail> {
     let files = [
         f1(alloc)?,
@@ -59,7 +60,7 @@ fn publication(alloc: Global, numbers: &mut Numbers, files: &[Plain]) -> Result<
     })
 }
 
-/// Bytes of an answer that are delivered: all, or a number that may cut it.
+/// Returns how many bytes of an answer are delivered: all, or a number that may cut it.
 fn cut(numbers: &mut Numbers) -> Option<u32> {
     match numbers.below(3) {
         0 => Some(numbers.below(70_000) as u32),
@@ -67,7 +68,7 @@ fn cut(numbers: &mut Numbers) -> Option<u32> {
     }
 }
 
-/// An event at one of four clients, one of whom may be none.
+/// Returns an event of one of four clients, one of which may not exist.
 fn call(numbers: &mut Numbers) -> Event {
     let client = numbers.below(4) as u32;
     match numbers.below(12) {
@@ -99,7 +100,7 @@ fn event(alloc: Global, numbers: &mut Numbers, files: &[Plain]) -> Result<Event,
     }
 }
 
-/// A schedule: two files, three clients of the least or the most blocks, and thirty events at random.
+/// Returns a schedule: two files, three clients of the least or the most blocks, and thirty events at random.
 fn schedule(alloc: Global, numbers: &mut Numbers, files: &[Plain]) -> Result<Vec<Event>, Fail> {
     let mut events = Vec::new(alloc);
     events.push(publication(alloc, numbers, files)?)?;
@@ -122,8 +123,8 @@ fn schedule(alloc: Global, numbers: &mut Numbers, files: &[Plain]) -> Result<Vec
     Ok(events)
 }
 
-/// Adds a faithful stretch of the first client: its file is published, it opens a query, and it exchanges once more often than
-/// the query costs by the plain program. Gives the place of its first exchange.
+/// Adds a faithful stretch of the first client: its file is published, it opens a query, and it exchanges. There is one exchange more than
+/// the query costs by the plain program. Returns the place of the first exchange.
 fn push_stretch(
     alloc: Global,
     events: &mut Vec<Event>,
@@ -149,7 +150,7 @@ fn push_stretch(
     Ok(first)
 }
 
-/// The file that was published under a tag.
+/// Returns the file that was published under a tag.
 fn published<'a>(events: &'a [Event], log: &Log, tag: &[u8]) -> Option<&'a [u8]> {
     for (event, entry) in events.iter().zip(log.entries.iter()) {
         match (event, &entry.effect) {
@@ -162,7 +163,7 @@ fn published<'a>(events: &'a [Event], log: &Log, tag: &[u8]) -> Option<&'a [u8]>
     None
 }
 
-/// Whether a report is what the plain program reads in the file of its tag.
+/// Returns whether a report is what the plain program reads in the file of its tag.
 fn is_right(
     alloc: Global,
     events: &[Event],
@@ -178,7 +179,7 @@ fn is_right(
     Ok(plain.is_answer(alloc, report.query, &report.outcome)?)
 }
 
-/// A size of pieces: of a part of a head, of a block, or of an answer.
+/// Returns a size of pieces: of a part of a head, of a block, or of an answer.
 fn size_of_pieces(numbers: &mut Numbers) -> usize {
     match numbers.below(3) {
         0 => 1 + numbers.below(171),
@@ -187,8 +188,8 @@ fn size_of_pieces(numbers: &mut Numbers) -> usize {
     }
 }
 
-/// Runs a schedule, and counts its reports; None where one of them isn't right, where none comes in the stretch, or where answers
-/// in pieces of this size give another log.
+/// Runs a schedule, and returns the number of its reports. Returns `None` where one of them isn't right, or none comes in the stretch. It
+/// also does where answers in pieces of the size `piece` give another log.
 fn right_reports(
     alloc: Global,
     events: &[Event],

@@ -7,7 +7,7 @@ use std::test::Fail;
 use tiff_dir::Span;
 use world::{Delivered, Effect, Log};
 
-/// What an exchange asked for and what came of it.
+/// The range that an exchange asked for, and what came of it.
 #[derive(Clone, Copy, Debug, PartialEq, Eq)]
 struct Step {
     first: u64,
@@ -17,7 +17,7 @@ struct Step {
     delivered: Delivered,
 }
 
-/// An exchange for these bytes, whose answer has this status and so many bytes of body.
+/// Makes an exchange for these bytes, whose answer has this status, and `body` bytes of body.
 fn step_of(first: u64, last: u64, status: u16, body: u64, delivered: Delivered) -> Step {
     Step {
         first,
@@ -28,7 +28,7 @@ fn step_of(first: u64, last: u64, status: u16, body: u64, delivered: Delivered) 
     }
 }
 
-/// The exchanges of a client, in order.
+/// Returns the exchanges of a client, in order.
 fn exchanges(alloc: Global, log: &Log, client: u32) -> Result<Vec<Step>, Fail> {
     let mut steps = Vec::new(alloc);
     for entry in &log.entries {
@@ -49,7 +49,7 @@ fn exchanges(alloc: Global, log: &Log, client: u32) -> Result<Vec<Step>, Fail> {
     Ok(steps)
 }
 
-/// How many reports of the log are what the plain program reads in the file; None where one isn't, or has another tag.
+/// Returns how many reports of the log are what the plain program reads in the file. Returns `None` where one isn't, or has another tag.
 fn right_reports(
     alloc: Global,
     log: &Log,
@@ -88,7 +88,7 @@ fn restarts_where_the_file_is_replaced_between_requests(rt: HostRuntime) -> Resu
     Ok(())
 }
 
-/// The whole window of f5, of a cache that doesn't hold the file and of one that does.
+/// The whole window of f5, with a cache that doesn't hold the file and with one that does.
 const LARGE: &str = "\
 epoch 1
 publish a f5.tif
@@ -108,7 +108,7 @@ exchange 0
 exchange 1
 ";
 
-/// The three exchanges of a whole window of f5.
+/// Returns the three exchanges of a whole window of f5.
 fn whole_window() -> [Step; 3] {
     [
         step_of(0, 65535, 206, 65536, Delivered::Took(4)),
@@ -117,7 +117,7 @@ fn whole_window() -> [Step; 3] {
     ]
 }
 
-/// What the client of 66 blocks asks for again.
+/// The range that the client of 66 blocks asks for again.
 const AGAIN: Step = Step {
     first: 16384,
     last: 81919,

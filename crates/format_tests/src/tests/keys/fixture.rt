@@ -7,7 +7,7 @@ use reference_support::{Course, walk_over};
 use std::test::Fail;
 use tiff_dir::{GeoPlaces, Order, Place};
 
-/// The bytes of a field.
+/// Returns the bytes of a field.
 fn field(file: &[u8], place: Option<Place>) -> Option<&[u8]> {
     let place = place?;
     let first = usize::try_from(place.first).ok()?;
@@ -15,7 +15,7 @@ fn field(file: &[u8], place: Option<Place>) -> Option<&[u8]> {
     file.get(first..first.checked_add(len)?)
 }
 
-/// The order of a file without fault, and where its geo fields stand.
+/// Returns the byte order of a file without faults, and where its geo fields stand.
 fn places_of(rt: &impl AllocGlobal, file: &[u8]) -> Result<(Order, GeoPlaces), Fail> {
     let Course { end, ranges: _ } = walk_over(rt.alloc(), file).ok().ok_or("no memory")?;
     match end {

@@ -3,7 +3,7 @@ use geokeys::doubles;
 use std::test::Fail;
 use tiff_dir::Order;
 
-/// 1.0 and -2.5 as a file of each order has them.
+/// The numbers 1.0 and -2.5 as a file of each byte order has them.
 const LITTLE: [u8; 16] = [
     0x00, 0x00, 0x00, 0x00, 0x00, 0x00, 0xf0, 0x3f, 0x00, 0x00, 0x00, 0x00, 0x00, 0x00, 0x04, 0xc0,
 ];

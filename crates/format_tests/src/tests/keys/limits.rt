@@ -1,10 +1,10 @@
-//! Values beside each limit.
+//! Values on both sides of each limit.
 use super::{Value, Want, is_wanted, read};
 use assertion_support::expect_eq;
 use std::test::Fail;
 use tiff_dir::{FileFault, Order};
 
-/// Two doubles, most significant byte first.
+/// Two doubles, with the most significant byte first.
 const DOUBLES: [u8; 16] = [
     0x01, 0x02, 0x03, 0x04, 0x05, 0x06, 0x07, 0x08, 0x11, 0x12, 0x13, 0x14, 0x15, 0x16, 0x17, 0x18,
 ];
@@ -13,7 +13,8 @@ const FIRST: [u8; 8] = [0x01, 0x02, 0x03, 0x04, 0x05, 0x06, 0x07, 0x08];
 
 const SECOND: [u8; 8] = [0x11, 0x12, 0x13, 0x14, 0x15, 0x16, 0x17, 0x18];
 
-/// Location, count and offset of a key, and its value, if it has one; beside two doubles and the text `ab|`.
+/// A row has the location, the count and the offset of a key, and its value, if it has one. The other fields have two doubles and the text
+/// `ab|`.
 const PLACES: [(u16, u16, u16, Option<Value<'static>>); 26] = [
     (0, 1, 0, Some(Value::Short(0))),
     (0, 1, 65535, Some(Value::Short(65535))),
@@ -71,7 +72,7 @@ fn finds_values_up_to_the_end_of_their_field(rt: HostRuntime) -> Result<(), Fail
     Ok(())
 }
 
-/// Heads, orders of keys, and which of several faults is told.
+/// Rows of heads, of orders of keys, and of several faults, with the one that is reported.
 const HEADS: [(&[u16], Want<'static>); 17] = [
     (&[1], Err(FileFault::KeyHead)),
     (&[2, 1, 0, 0], Err(FileFault::KeyHead)),

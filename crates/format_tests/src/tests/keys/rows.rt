@@ -1,4 +1,4 @@
-//! Directories without other fields.
+//! Key directories without other fields.
 use super::{Value, Want, is_wanted, read};
 use std::test::Fail;
 use tiff_dir::{FileFault, Order};

@@ -39,8 +39,8 @@ const WINDOW_PARTS: &[&str] = &[
     "cogtools cogread window http://127.0.0.1:8080/a.tif 0 0 256 256 --output window.pgm\n",
 ];
 
-/// A command line that asks for help, and what stands in the help: each word and option with its unit and its default, and an
-/// example.
+/// A row has a command line that asks for help, and what stands in the help. That is each word and option with its unit and its default,
+/// and an example.
 #[rattlefmt::skip]
 const HELPS: [(&str, &[&str]); 10] = [
     ("--help", &[
@@ -124,7 +124,7 @@ const HELPS: [(&str, &[&str]); 10] = [
     ]),
 ];
 
-/// The first part that isn't in the help on standard output.
+/// Returns the first part that isn't in the help on standard output.
 fn missing_part(told: &Told, parts: &'static [&'static str]) -> Option<&'static str> {
     let Ok(help) = str::from_utf8(&told.out) else {
         return parts.first().copied();
@@ -143,7 +143,7 @@ fn prints_each_word_with_its_unit_and_default(rt: HostRuntime) -> Result<(), Fai
     Ok(())
 }
 
-/// Lines that aren't of their program's form.
+/// Lines that don't have their program's form.
 const OTHERS: [&str; 15] = [
     "cogworld",
     "cogworld a b",
@@ -162,7 +162,7 @@ const OTHERS: [&str; 15] = [
     "cogread window h:1 a 0 0 1 1 --columns 4 --output w.pgm --world",
 ];
 
-/// What clap tells of them stands on standard error.
+/// Expects clap's message about each of them on standard error.
 #[test]
 fn refuses_a_line_that_is_not_of_its_program(rt: HostRuntime) -> Result<(), Fail> {
     for line in OTHERS {
@@ -174,7 +174,7 @@ fn refuses_a_line_that_is_not_of_its_program(rt: HostRuntime) -> Result<(), Fail
     Ok(())
 }
 
-/// A command line with the command's own name, and what its output begins with.
+/// A row has a command line with the command's own name, and what its output begins with.
 const NAMED: [(&str, &str); 9] = [
     ("cogtools --version", "cogtools 0.1.0\n"),
     ("/usr/bin/cogtools cogread --version", "cogread 0.1.0\n"),
@@ -209,7 +209,7 @@ fn is_the_program_that_its_own_name_names(rt: HostRuntime) -> Result<(), Fail> {
     Ok(())
 }
 
-/// A command line with the command's own name, and the usage that its help tells.
+/// A row has a command line with the command's own name, and the usage in its help.
 const USAGES: [(&str, &str); 3] = [
     (
         "/usr/bin/cogread info -h",
@@ -232,7 +232,7 @@ fn names_the_command_as_it_was_typed(rt: HostRuntime) -> Result<(), Fail> {
     Ok(())
 }
 
-/// Lines whose answer is help or a version.
+/// A row has a line that asks for help or a version, and the line of its fault.
 const TOLD: [(&str, &str); 4] = [
     ("--help", "cogtools: can't write\n"),
     ("--version", "cogtools: can't write\n"),

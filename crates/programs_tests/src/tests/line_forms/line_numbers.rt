@@ -2,7 +2,7 @@
 use assertion_support::expect_eq;
 use command_lines::number_from;
 
-/// A word, the least and the greatest number of its range, and the number that it writes.
+/// A row has a word, the least and the greatest number of its range, and the number that it writes.
 const NUMBERS: [(&str, u32, u32, Option<u32>); 12] = [
     ("0", 0, u32::MAX, Some(0)),
     ("4294967295", 0, u32::MAX, Some(u32::MAX)),

@@ -1,4 +1,4 @@
-//! The words of `cogread`, `cogserve` and `cogworld`, and the lines that they are.
+//! The words of `cogread`, `cogserve` and `cogworld`, and the lines that are read from them.
 use assertion_support::expect_eq;
 use clap::Error;
 use clap::error::ErrorKind;
@@ -77,7 +77,8 @@ fn is_read(alloc: Global, line: &str, want: &ReadLine<'_>) -> Result<bool, Alloc
     Ok(is_read)
 }
 
-/// Expects the line that these words of `cogread` are. Each is a call of its own, since a table of such lines takes minutes to prove.
+/// Expects the line that is read from these words of `cogread`. Each is a call of its own, since a table of such lines takes minutes to
+/// prove.
 fn expect_read(
     rt: &(impl Abort + AllocGlobal),
     line: &str,
@@ -87,7 +88,7 @@ fn expect_read(
     Ok(())
 }
 
-/// The lines of windows.
+/// Expects the lines of windows.
 #[rattlefmt::skip]
 fn expect_windows(rt: &(impl Abort + AllocGlobal)) -> Result<(), Fail> {
     expect_read(rt, "cogread window h:1 a 2 1 3 2", &LINE)?;
@@ -100,7 +101,7 @@ fn expect_windows(rt: &(impl Abort + AllocGlobal)) -> Result<(), Fail> {
     Ok(())
 }
 
-/// The lines of whole levels, and of infos.
+/// Expects the lines of whole levels, and of infos.
 #[rattlefmt::skip]
 fn expect_wholes_and_infos(rt: &(impl Abort + AllocGlobal)) -> Result<(), Fail> {
     expect_read(rt, "cogread window h:1 a --whole", &ReadLine { asked: AskedWords::Whole { level: None }, ..LINE })?;
@@ -114,7 +115,7 @@ fn expect_wholes_and_infos(rt: &(impl Abort + AllocGlobal)) -> Result<(), Fail> 
     Ok(())
 }
 
-/// The lines of rectangles, whose numbers may be negative, and of world files.
+/// Expects the lines of rectangles, whose numbers may be negative, and of world files.
 #[rattlefmt::skip]
 fn expect_rectangles(rt: &(impl Abort + AllocGlobal)) -> Result<(), Fail> {
     expect_read(rt, "cogread window h:1 a --bounds -1.5 2 -1e-5 4", &ReadLine { asked: AskedWords::Bounds(BOUNDS), ..LINE })?;
@@ -123,7 +124,7 @@ fn expect_rectangles(rt: &(impl Abort + AllocGlobal)) -> Result<(), Fail> {
     Ok(())
 }
 
-/// The lines of descriptions.
+/// Expects the lines of descriptions.
 #[rattlefmt::skip]
 fn expect_descriptions(rt: &(impl Abort + AllocGlobal)) -> Result<(), Fail> {
     expect_read(rt, "cogread describe h:1 a", &DESCRIPTION)?;
@@ -140,7 +141,7 @@ fn reads_the_options_of_cogread_anywhere(rt: HostRuntime) -> Result<(), Fail> {
     expect_descriptions(&rt)
 }
 
-/// A line of `cogread` with field lines, and these.
+/// A line of `cogread` with two field lines.
 const WITH_HEADERS: &str = "cogread info --header A:1 h:1 --keep a --header=b:";
 
 #[test]
@@ -170,8 +171,8 @@ fn reads_what_cogserve_adds(rt: HostRuntime) -> Result<(), Fail> {
     Ok(())
 }
 
-/// Words of `cogserve`: the address, the epoch, the number of connections, how many at once, the patience, the files, and whether
-/// there is a log.
+/// A row has a line of `cogserve`, with its address, its epoch and its number of connections. Then come how many at once, the patience, the
+/// files, and whether there is a log.
 type ServedRow = (
     &'static str,
     [&'static str; 3],
@@ -218,7 +219,7 @@ fn reads_the_options_and_files_of_cogserve_anywhere(rt: HostRuntime) -> Result<(
     Ok(())
 }
 
-/// Words that are refused, or ask for help, and how clap names that.
+/// A row has words that are refused or ask for help, and how clap names that.
 #[rattlefmt::skip]
 const REFUSED: [(&str, ErrorKind); 38] = [
     ("cogread --help", ErrorKind::DisplayHelp),
@@ -261,7 +262,7 @@ const REFUSED: [(&str, ErrorKind); 38] = [
     ("cogworld --pieces 1 --pieces 2 a", ErrorKind::ArgumentConflict),
 ];
 
-/// How clap names the refusal, if there is one.
+/// Returns how clap names the refusal, if there is one.
 fn refusal<T: Drop>(line: Result<T, Error>) -> Option<ErrorKind> {
     match line {
         Ok(_) => None,
@@ -269,7 +270,7 @@ fn refusal<T: Drop>(line: Result<T, Error>) -> Option<ErrorKind> {
     }
 }
 
-/// How the words of a line are refused by the program that is their first.
+/// Returns how the program that is the first word of a line refuses its words.
 fn refusal_of(alloc: Global, line: &str) -> Result<Option<ErrorKind>, AllocError> {
     let words = words_of(alloc, line)?;
     if line.starts_with("cogserve") {

@@ -7,14 +7,14 @@ use std::alloc::{AllocError, Global};
 use std::test::Fail;
 use text_description::{CoordinateSystem, RasterType};
 
-/// What Info says of an image with these keys.
+/// Returns the contents of Info of an image with these keys.
 fn info_of(alloc: Global, keys: Vec<Key>) -> Result<Info, Fail> {
     let mut info = info(alloc, &[], &[], &[])?;
     info.geo.keys = keys;
     Ok(info)
 }
 
-/// Keys that have numbers.
+/// Makes keys that have numbers.
 fn numbers(alloc: Global, keys: &[(u16, u16)]) -> Result<Vec<Key>, AllocError> {
     let mut made = Vec::new(alloc);
     for (id, number) in keys {
@@ -26,7 +26,7 @@ fn numbers(alloc: Global, keys: &[(u16, u16)]) -> Result<Vec<Key>, AllocError> {
     Ok(made)
 }
 
-/// Keys that have texts.
+/// Makes keys that have texts.
 fn texts(alloc: Global, keys: &[(u16, &[u8])]) -> Result<Vec<Key>, AllocError> {
     let mut made = Vec::new(alloc);
     for (id, text) in keys {
@@ -38,8 +38,8 @@ fn texts(alloc: Global, keys: &[(u16, &[u8])]) -> Result<Vec<Key>, AllocError> {
     Ok(made)
 }
 
-/// A projected system is told before the geodetic one that it stands on, which isn't told in its place. The numbers 0 (undefined) and
-/// 32767 (user-defined) are none.
+/// Expects the number of a projected system before that of the geodetic one that it stands on. The geodetic one is never reported instead.
+/// The numbers 0 (undefined) and 32767 (user-defined) don't count.
 #[test]
 fn tells_the_number_of_a_system(rt: HostRuntime) -> Result<(), Fail> {
     let alloc = rt.alloc();
@@ -65,7 +65,8 @@ fn tells_the_number_of_a_system(rt: HostRuntime) -> Result<(), Fail> {
 /// Keys with texts.
 type Texts = &'static [(u16, &'static [u8])];
 
-/// A text ends at a bar or a NUL, and a label before the name isn't part of it. One that isn't UTF-8 is told as far as it is.
+/// Expects that a text ends at a bar or a NUL, and that a label before the name isn't part of it. A text that isn't UTF-8 is reported as
+/// far as it is.
 #[test]
 fn tells_the_text_of_a_system(rt: HostRuntime) -> Result<(), Fail> {
     let alloc = rt.alloc();
@@ -95,7 +96,7 @@ fn tells_the_text_of_a_system(rt: HostRuntime) -> Result<(), Fail> {
     Ok(())
 }
 
-/// Keys of a projected system with texts, and the name that gdalinfo has for them: the geodetic citation names the base of the system.
+/// Expects the name that gdalinfo has for the keys of a projected system with texts. The geodetic citation names the base of the system.
 #[test]
 fn tells_the_name_of_a_projected_system(rt: HostRuntime) -> Result<(), Fail> {
     let alloc = rt.alloc();

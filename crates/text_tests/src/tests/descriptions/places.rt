@@ -1,4 +1,4 @@
-//! Where columns and rows lie, by each form of the fields, with the numbers that gdalinfo tells of such a file.
+//! Where columns and rows lie, by each form of the fields, with the numbers that gdalinfo prints for such a file.
 use assertion_support::expect_eq;
 use cog_client::Info;
 use geokeys::Geo;
@@ -7,7 +7,7 @@ use std::num::f64_to_bits_with_nan;
 use std::test::Fail;
 use text_description::{Corners, Placement};
 
-/// The items of a field: doubles, the most significant byte of each first.
+/// Returns the items of a field: doubles, each with the most significant byte first.
 fn items(alloc: Global, numbers: &[f64]) -> Result<Option<Vec<[u8; 8]>>, Fail> {
     let mut items = Vec::new(alloc);
     for number in numbers {
@@ -16,7 +16,7 @@ fn items(alloc: Global, numbers: &[f64]) -> Result<Option<Vec<[u8; 8]>>, Fail> {
     Ok(if items.is_empty() { None } else { Some(items) })
 }
 
-/// What Info says of an image with these fields; a field without numbers isn't there.
+/// Returns the contents of Info of an image with these fields. A field without numbers isn't there.
 pub fn info(alloc: Global, scale: &[f64], tiepoints: &[f64], matrix: &[f64]) -> Result<Info, Fail> {
     Ok(Info {
         sides: vec![in alloc; (20, 20)]?,
@@ -35,7 +35,7 @@ const SCALE: [f64; 3] = [60.0, 60.0, 0.0];
 
 const TIEPOINT: [f64; 6] = [0.0, 0.0, 0.0, 440720.0, 3751320.0, 0.0];
 
-/// The same place by a tiepoint in the image.
+/// The same place, by a tiepoint in the image.
 const INNER_TIEPOINT: [f64; 6] = [10.0, 5.0, 0.0, 441320.0, 3751020.0, 0.0];
 
 /// An image that is turned by a quarter and a half.
@@ -46,7 +46,7 @@ const TURNED: [f64; 16] = [
 /// The fields of an image: its scale, its tiepoints and its transformation.
 type Fields<'a> = [&'a [f64]; 3];
 
-/// Where an image with these fields lies, if it does.
+/// Returns where an image with these fields lies, if it does.
 fn placement_of(
     alloc: Global,
     fields: Fields<'_>,
@@ -57,7 +57,7 @@ fn placement_of(
     Ok(Placement::of(&info, is_point))
 }
 
-/// The numbers of gdalinfo's geoTransform, or none.
+/// Returns the numbers of gdalinfo's geoTransform, or `None`.
 fn numbers_of(alloc: Global, fields: Fields<'_>, is_point: bool) -> Result<Option<[f64; 6]>, Fail> {
     let placement = placement_of(alloc, fields, is_point)?;
     Ok(placement.map(|placement| placement.numbers()))
@@ -104,7 +104,7 @@ fn tells_corners_as_gdalinfo_does(rt: HostRuntime) -> Result<(), Fail> {
     Ok(())
 }
 
-/// No fields, a scale alone, a tiepoint alone, two tiepoints, and half a transformation.
+/// Expects no place for no fields, a scale alone, a tiepoint alone, two tiepoints, and half a transformation.
 #[test]
 fn guesses_no_place(rt: HostRuntime) -> Result<(), Fail> {
     let alloc = rt.alloc();

@@ -1,5 +1,6 @@
-//! Which pixels of a level a rectangle meets, beside GDAL 3.6.2 and rasterio 1.3.5. Where a row names `gdal_translate`, its sides are edges
-//! of pixels: `-projwin` takes the same pixels then. Where it names rasterio, `from_bounds` is rounded outwards, and cut to the image.
+//! The pixels of a level that a rectangle meets, beside what GDAL 3.6.2 and rasterio 1.3.5 find. Where a row names `gdal_translate`, its
+//! sides are edges of pixels: `-projwin` takes the same pixels then. Where it names rasterio, `from_bounds` is rounded outwards, and cut to
+//! the image.
 use super::places;
 use assertion_support::expect_eq;
 use cog_client::{Info, Query};
@@ -9,7 +10,7 @@ use std::test::Fail;
 use text_description::{Bounds, NoPixels, window_covering};
 use tiff_dir::Pick;
 
-/// A file by its levels' sides, its scale, its tiepoints, its transformation, and GTRasterTypeGeoKey.
+/// A file by the sides of its levels, its scale, its tiepoints, its transformation, and GTRasterTypeGeoKey.
 #[derive(Clone, Copy)]
 pub struct Image {
     pub sides: &'static [(u32, u32)],
@@ -19,7 +20,7 @@ pub struct Image {
     pub raster_type: u16,
 }
 
-/// 64 by 64 pixels of a hundredth of a degree, as `gdal_translate -a_ullr 106 48 106.64 47.36` writes them.
+/// An image of 64 by 64 pixels of a hundredth of a degree, as `gdal_translate -a_ullr 106 48 106.64 47.36` writes them.
 pub const DEGREES: Image = Image {
     sides: &[(64, 64), (32, 32), (16, 16)],
     scale: &[0.010000000000000009, 0.010000000000000009, 0.0],
@@ -28,14 +29,14 @@ pub const DEGREES: Image = Image {
     raster_type: 1,
 };
 
-/// The same, whose pixels are points.
+/// The same image, with pixels that are points.
 pub const POINTS: Image = Image {
     tiepoints: &[0.0, 0.0, 0.0, 106.005, 47.995, 0.0],
     raster_type: 2,
     ..DEGREES
 };
 
-/// 101 by 67 pixels of 60 m, and levels whose sides are no halves.
+/// An image of 101 by 67 pixels of 60 m, and levels whose sides aren't halves.
 pub const METRES: Image = Image {
     sides: &[(101, 67), (51, 34), (26, 17)],
     scale: &[60.0, 60.0, 0.0],
@@ -44,7 +45,7 @@ pub const METRES: Image = Image {
     raster_type: 1,
 };
 
-/// 64 by 64 pixels of a hundredth of a degree, whose first row is the southernmost.
+/// An image of 64 by 64 pixels of a hundredth of a degree, whose first row is the southernmost.
 const SOUTH_FIRST: Image = Image {
     sides: &[(64, 64)],
     scale: &[],
@@ -55,7 +56,7 @@ const SOUTH_FIRST: Image = Image {
     raster_type: 1,
 };
 
-/// What Info says of an image.
+/// Returns the contents of Info of an image.
 pub fn info_of(alloc: Global, image: &Image) -> Result<Info, Fail> {
     let mut info = places::info(alloc, image.scale, image.tiepoints, image.matrix)?;
     info.sides = Vec::from_slice(alloc, image.sides)?;
@@ -69,7 +70,7 @@ pub fn info_of(alloc: Global, image: &Image) -> Result<Info, Fail> {
 /// A rectangle by its west, south, east and north side.
 type Sides = [f64; 4];
 
-/// What is read of a level for a rectangle.
+/// Returns the query of a level for a rectangle, or why no pixels are read.
 fn read(
     alloc: Global,
     image: &Image,
@@ -86,10 +87,10 @@ fn read(
     Ok(window_covering(&info_of(alloc, image)?, &bounds, level))
 }
 
-/// The first column and row, and how many of each.
+/// The first column and row, and the numbers of columns and rows.
 type Pixels = [u32; 4];
 
-/// Whether a rectangle meets just these pixels of a level.
+/// Returns whether a rectangle meets exactly these pixels of a level.
 fn is_met(
     alloc: Global,
     image: &Image,
@@ -107,7 +108,7 @@ const INNER: Sides = [106.105, 47.507, 106.31, 47.893];
 
 const ODD: Sides = [440781.0, 3749321.0, 443721.0, 3751199.0];
 
-/// The rows of rasterio, in each level, and of `gdal_translate -projwin`.
+/// Expects the rows of rasterio, in each level, and those of `gdal_translate -projwin`.
 #[test]
 fn meets_the_pixels_that_gdal_takes(rt: HostRuntime) -> Result<(), Fail> {
     #[rattlefmt::skip]
@@ -134,7 +135,7 @@ fn meets_the_pixels_that_gdal_takes(rt: HostRuntime) -> Result<(), Fail> {
     Ok(())
 }
 
-/// A point is in the pixel that `gdallocationinfo -geoloc` tells, and one on an edge in the pixel after it.
+/// Expects a point in the pixel that `gdallocationinfo -geoloc` prints, and a point on an edge in the pixel after it.
 #[test]
 fn meets_the_pixel_of_a_point(rt: HostRuntime) -> Result<(), Fail> {
     #[rattlefmt::skip]
@@ -157,7 +158,7 @@ fn meets_the_pixel_of_a_point(rt: HostRuntime) -> Result<(), Fail> {
     Ok(())
 }
 
-/// Beyond each side of the image, and up to it.
+/// Expects that rectangles beyond each side of the image, and up to it, meet nothing.
 #[test]
 fn meets_nothing_outside(rt: HostRuntime) -> Result<(), Fail> {
     let rows: [Sides; 6] = [
@@ -175,7 +176,8 @@ fn meets_nothing_outside(rt: HostRuntime) -> Result<(), Fail> {
     Ok(())
 }
 
-/// Without a place, turned by a quarter and a half, and with pixels that have no width.
+/// Expects that rectangles meet nothing without a place, nor in an image that is turned by a quarter and a half. The same holds for pixels
+/// without a width.
 #[test]
 fn meets_nothing_without_a_place(rt: HostRuntime) -> Result<(), Fail> {
     let nowhere = Image {
@@ -201,7 +203,7 @@ fn meets_nothing_without_a_place(rt: HostRuntime) -> Result<(), Fail> {
     Ok(())
 }
 
-/// Of a level that isn't there a window is asked for that isn't there, either.
+/// Expects that of a missing level a window is asked for that isn't there, either.
 #[test]
 fn asks_for_a_level_that_is_not_there(rt: HostRuntime) -> Result<(), Fail> {
     assert!(rt; is_met(rt.alloc(), &DEGREES, 3, INNER, [0, 0, 1, 1])?);

@@ -7,7 +7,7 @@ use std::test::Fail;
 use text_description::{WorldFile, world_file};
 use tiff_dir::Pick;
 
-/// The world file of a window of one pixel.
+/// Returns the world file of a window of one pixel.
 fn world_of(
     alloc: Global,
     image: &Image,
@@ -25,7 +25,7 @@ fn world_of(
     Ok(world_file(&info_of(alloc, image)?, &query))
 }
 
-/// The numbers of a world file, in the order of its lines.
+/// Returns the numbers of a world file, in the order of its lines.
 fn numbers_of(world: WorldFile) -> [f64; 6] {
     [
         world.across.0,
@@ -37,7 +37,8 @@ fn numbers_of(world: WorldFile) -> [f64; 6] {
     ]
 }
 
-/// GDAL writes ten digits after the point, and doubles have nine there where places have millions of metres.
+/// Returns whether the numbers are close. GDAL writes ten digits after the point, and doubles have nine there where places have millions of
+/// metres.
 fn is_close(found: [f64; 6], want: [f64; 6]) -> bool {
     (0..6).all(|k| (found[k] - want[k]).abs() < 0.000000001)
 }
@@ -80,7 +81,7 @@ fn writes_six_lines(rt: HostRuntime) -> Result<(), Fail> {
     Ok(())
 }
 
-/// Without a place there is none, nor for a window that columns pick the level of.
+/// Expects no world file without a place, and none for a window whose level is picked by columns.
 #[test]
 fn guesses_no_world_file(rt: HostRuntime) -> Result<(), Fail> {
     let nowhere = Image {
