@@ -1,1 +1,2 @@
 mod AskLemmas
+pub mod HandedLemmas

@@ -1,5 +1,5 @@
 -- What callers know of a source over sockets.
-use Rattle.std.specs.Prelude.{◌≡◌, ◌⊎◌, ◌≤◌, ◌+◌, ℕ, Bool, false, List, ◌∷◌, length, take, drop, IsSome}
+use Rattle.std.specs.Prelude.{◌≡◌, ◌⊎◌, ◌≤◌, ◌+◌, ℕ, Bool, false, List, [], ◌∷◌, ◌++◌, length, take, drop, IsSome}
 use Rattle.client_connection.specs.Status.{Status, Takes}
 use Rattle.client_connection.specs.declared.parts.Part.TheVariants.{Body}
 use Rattle.client_sockets.specs.declared.socket.Socket.{Socket}
@@ -50,6 +50,11 @@ pub record Hands {R : Type 0} (bytes : List ℕ) (s t : Socket R) : Type 0 where
   pub reached : Status
   pub stays : IsSome (connection_of s).left → reached ≡ connection_of s
   pub next : HandsHead bytes reached s t ⊎ HandsBody bytes reached s t
+
+-- The bytes are handed on by the socket `s`, piece after piece.
+pub data HandedOn {R : Type 0} (s : Socket R) : List ℕ → Socket R → Type 0 where
+  nothing : HandedOn s [] s
+  more : (bytes piece : List ℕ) (t u : Socket R) → HandedOn s bytes t → Hands piece t u → HandedOn s (bytes ++ piece) u
 
 -- a socket speaks for no book
 abbrev pub Nothing : Type 0

@@ -4,5 +4,6 @@
 
 mod socket;
 mod stream;
+mod whole_answers;
 
 pub use socket::Socket;

@@ -8,6 +8,7 @@ use crate::stream::{is_quiet, read_some};
 use client_connection::{ClientConnection, Part, Turn};
 use cog_client::{Lost, Pieces};
 use http_fields::limits::HEAD_LIMIT;
+use std::alloc::Global;
 use std::io::Write;
 use std::net::{Net, TcpStream};
 
@@ -65,6 +66,11 @@ impl<'r, R: Net<Stream = TcpStream> + AllocGlobal> Socket<'r, R> {
     {
         self.close();
         self.keeps = true;
+    }
+
+    /// Returns the allocator of its runtime.
+    pub(crate) fn alloc(&self) -> Global {
+        self.rt.alloc()
     }
 
     /// Ends the connection.
@@ -240,7 +246,7 @@ impl<'r, R: Net<Stream = TcpStream> + AllocGlobal> Socket<'r, R> {
     }
 
     /// Reads what is there, or waits for it. Returns 0 at the end of the stream, and where the connection fails.
-    fn receive(&mut self, out: &mut [u8]) -> usize
+    fn read_in(&mut self, out: &mut [u8]) -> usize
         ensures few { result ≤ length out.new }
         ensures server { server_of self.new ≡ server_of self.old }
         ensures exchanges { exchanges_of self.new ≡ exchanges_of self.old }
@@ -289,7 +295,7 @@ impl<'r, R: Net<Stream = TcpStream> + AllocGlobal> Socket<'r, R> {
             return true;
         }
         let mut room = [0u8; HEAD_LIMIT];
-        let count = self.receive(&mut room);
+        let count = self.read_in(&mut room);
         if self.unread.extend_from_slice(&room[..count]).is_err() {
             self.is_broken = true;
         }
@@ -403,7 +409,7 @@ impl<'r, R: Net<Stream = TcpStream> + AllocGlobal> Socket<'r, R> {
         ensures connection { connection_of self.new ≡ connection_of self.old }
     {
         if self.unread.is_empty() {
-            return self.receive(out);
+            return self.read_in(out);
         }
         let count = self.unread.len().min(out.len());
         out[..count].copy_from_slice(&self.unread[..count]);

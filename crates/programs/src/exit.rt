@@ -12,115 +12,165 @@ use std::alloc::AllocError;
 use std::{fmt, io};
 use text_description::NoPixels;
 use text_report::ExplainedFault;
+use thiserror::Error;
 use tiff_dir::FileFault;
 
-/// Says why a program ends early.
-#[derive(Drop)]
+/// Says why a program ends early. Its text is the fault's line, without the program's name before it.
+#[derive(Debug, Drop, Error)]
 pub enum Exit {
     /// A word of the command line isn't UTF-8.
+    #[error("a word isn't text")]
     NotText,
     /// The first word names no program.
+    #[error("not a program: {0}")]
     NotAProgram(String),
     /// The words of the command line aren't the program's, or ask for help.
+    #[error("{0}")]
     CommandLine(clap::Error),
     /// A word of the command line isn't a number of its range.
+    #[error("not a number: {0}")]
     NotANumber(String, NumberRange),
     /// A word of the command line isn't a number of its range, which the line has, too.
+    #[error("not a number: {0}. Give {1}")]
     OutOfRange(String, NumberRange),
     /// A word of a rectangle isn't a finite number.
+    #[error("not a number: {0}. Give --bounds W S E N: four numbers in the file's own coordinates")]
     NotACoordinate(String),
     /// The west side of a rectangle is greater than the east side, or the south side than the north side.
+    #[error("no rectangle: W is greater than E, or S than N. Give --bounds W S E N")]
     NoRectangle,
     /// A rectangle gives no window of the file that is read, for this reason.
+    #[error("no window: {0}")]
     NoWindow(NoPixels),
     /// A world file is asked for, and the file that is read doesn't say where its pixels lie.
+    #[error("no world file: the file doesn't say where its pixels lie. Leave --world out")]
     NoWorld,
     /// A word of `--header` isn't `NAME: VALUE`. It isn't printed, since it may be a secret.
+    #[error("no field line: it has no colon. Give --header 'NAME: VALUE'")]
     NoFieldLine,
     /// The field line of this name isn't added to requests, for this reason. Its value isn't printed.
+    #[error("no field line: {0}: {1}")]
     NotAField(String, FieldError),
     /// A word of the command line isn't `NAME=PATH`.
+    #[error("not a file: {0}")]
     NotAFile(String),
     /// A word of the command line isn't an origin.
+    #[error("not an origin: {0}")]
     NotAnOrigin(String),
     /// Two files have one name, the first text here. Their paths follow.
+    #[error("one name for two files: {0}: {1}, {2}. Name one of them: NAME=PATH")]
     OneName(String, String, String),
     /// The clock doesn't say what time it is.
+    #[error("no clock: give --epoch N")]
     NoClock,
     /// The script isn't read, for this reason.
+    #[error(fmt = write_script_error)]
     Script(ScriptError),
     /// The file at this path can't be read.
+    #[error("can't read {0}")]
     CantRead(String),
     /// The file at this path can't be read, for this reason.
+    #[error("can't read {0}: {1}")]
     CantReadBy(String, NotRead),
     /// This word is a negative number, where the line has numbers without a sign alone.
+    #[error("not a number: {0}. Give numbers without a sign")]
     Negative(String),
     /// This word names no file to read, for this reason.
+    #[error("can't read {0}: {1}. Give http://HOST/PATH, the path of a file, or SERVER NAME")]
     NamesNoFile(String, NotRead),
     /// The file of this name isn't published.
+    #[error("refused {number} {1}", number = .0.number())]
     Refused(PublishError, String),
     /// No client of the host and name is made.
+    #[error("refused {number}", number = .0.number())]
     RefusedClient(ClientError),
     /// This word names no file of a server.
+    #[error("can't read {0}: {1}")]
     NotAFileUrl(String, FileUrlError),
     /// No client of this URL is made.
+    #[error("can't read {0}: {1}")]
     RefusedUrl(String, UrlError),
     /// The report is this fault of the file.
+    #[error(fmt = write_fault)]
     OfFile(FileFault),
     /// The report is this fault of a file that a URL or a path names. The program's line explains it.
+    #[error("{0}")]
     Explained(ExplainedFault),
     /// No report stands after all requests.
+    #[error("no report")]
     NoReport,
     /// No report stands after all requests to a URL, and the last connection wasn't made, for this reason.
+    #[error("no report: no connection: {0}")]
     NoConnection(io::Error),
     /// No report stands after all requests to a URL, and no answer came to the last one.
+    #[error("no report: no answer came to the last request")]
     NoAnswer,
     /// No report stands after this number of requests to a URL, and the last one brought bytes of the file.
+    #[error("no report after {0} requests. Give more: --requests N, up to 65536")]
     TooFewRequests(u32),
     /// An answer to a URL isn't used for this reason. It is the first one, and no later one is expected to be used, or the last one.
+    #[error("no report: {sentence}", sentence = WhySentence(*.0))]
     NotUsed(Why),
     /// The address can't be bound.
+    #[error("can't listen")]
     CantListen,
     /// This address can't be bound, for this reason.
+    #[error("can't listen at {0}: {1}. Give --listen HOST:PORT, as 127.0.0.1:0 for any free port")]
     CantListenAt(String, io::Error),
     /// No connection can be accepted any more.
+    #[error("can't accept")]
     CantAccept,
     /// Connections can't be waited for any more.
+    #[error("can't wait")]
     CantWait,
     /// The standard output can't be written.
+    #[error("can't write")]
     CantWrite,
     /// Nobody reads the standard output any more, as where `head` has ended. Nothing is printed then.
+    #[error("can't write")]
     ReaderGone,
     /// The file at this path can't be written.
+    #[error("can't write {0}")]
     CantWriteFile(String),
     /// No memory was left.
+    #[error("out of memory")]
     Memory,
 }
 
 /// Says why a file isn't read.
-#[derive(Drop)]
+#[derive(Debug, Drop, Error)]
 pub enum NotRead {
     /// The system says why.
+    #[error("{0}")]
     Io(io::Error),
     /// It isn't a plain file: a folder, say.
+    #[error("it isn't a plain file")]
     NotPlain,
     /// Another program wrote to it while it was read.
+    #[error("it was written while it was read. Try again")]
     Written,
     /// No server takes such a file.
+    #[error("{0}")]
     Refused(PublishError),
     /// It is a URL of another scheme than http.
+    #[error("it isn't a URL of http")]
     Scheme,
 }
 
-impl fmt::Display for NotRead {
-    fn fmt<W: fmt::Write>(&self, f: &mut fmt::Formatter<W>) -> fmt::Result {
-        match self {
-            NotRead::Io(error) => write!(f, "{error}"),
-            NotRead::NotPlain => f.write_str("it isn't a plain file"),
-            NotRead::Written => f.write_str("it was written while it was read. Try again"),
-            NotRead::Refused(refusal) => write!(f, "{refusal}"),
-            NotRead::Scheme => f.write_str("it isn't a URL of http"),
-        }
+/// Writes why a script isn't read: the number of its line that is no event or whose file can't be read, or that memory ran out.
+fn write_script_error<W: fmt::Write>(error: &ScriptError, f: &mut fmt::Formatter<W>) -> fmt::Result {
+    match error {
+        ScriptError::NotAnEvent(line) => write!(f, "line {line}: not an event"),
+        ScriptError::CantRead(line) => write!(f, "line {line}: can't read"),
+        ScriptError::Memory => f.write_str("out of memory"),
+    }
+}
+
+/// Writes the numbers of a fault: its own, and the tag of the field that it is about, if it is about one.
+fn write_fault<W: fmt::Write>(fault: &FileFault, f: &mut fmt::Formatter<W>) -> fmt::Result {
+    match fault.tag() {
+        Some(tag) => write!(f, "fault {} {tag}", fault.number()),
+        None => write!(f, "fault {}", fault.number()),
     }
 }
 
@@ -228,7 +278,7 @@ impl Exit {
     }
 }
 
-/// Prints a fault as a program's line.
+/// Prints a fault as a program's line: after the program's name, but for a line of a script, and where clap has written the name.
 #[derive(Drop)]
 struct ExitLine<'a> {
     program: &'a str,
@@ -239,86 +289,9 @@ impl fmt::Display for ExitLine<'_> {
     fn fmt<W: fmt::Write>(&self, f: &mut fmt::Formatter<W>) -> fmt::Result {
         let program = self.program;
         match self.fault {
-            Exit::Script(ScriptError::NotAnEvent(line)) => write!(f, "line {line}: not an event"),
-            Exit::Script(ScriptError::CantRead(line)) => write!(f, "line {line}: can't read"),
-            Exit::NotText => write!(f, "{program}: a word isn't text"),
-            Exit::NotAProgram(word) => write!(f, "{program}: not a program: {word}"),
             Exit::CommandLine(error) => write!(f, "{error}"),
-            Exit::NotANumber(word, _) => write!(f, "{program}: not a number: {word}"),
-            Exit::OutOfRange(word, range) => {
-                write!(f, "{program}: not a number: {word}. Give {range}")
-            }
-            Exit::Negative(word) => write!(
-                f,
-                "{program}: not a number: {word}. Give numbers without a sign"
-            ),
-            Exit::NotACoordinate(word) => write!(
-                f,
-                "{program}: not a number: {word}. Give --bounds W S E N: four numbers in the file's own coordinates"
-            ),
-            Exit::NoRectangle => write!(
-                f,
-                "{program}: no rectangle: W is greater than E, or S than N. Give --bounds W S E N"
-            ),
-            Exit::NoWindow(why) => write!(f, "{program}: no window: {why}"),
-            Exit::NoWorld => write!(
-                f,
-                "{program}: no world file: the file doesn't say where its pixels lie. Leave --world out"
-            ),
-            Exit::NoFieldLine => write!(
-                f,
-                "{program}: no field line: it has no colon. Give --header 'NAME: VALUE'"
-            ),
-            Exit::NotAField(name, error) => write!(f, "{program}: no field line: {name}: {error}"),
-            Exit::NotAFile(word) => write!(f, "{program}: not a file: {word}"),
-            Exit::NotAnOrigin(word) => write!(f, "{program}: not an origin: {word}"),
-            Exit::OneName(name, first, second) => write!(
-                f,
-                "{program}: one name for two files: {name}: {first}, {second}. Name one of them: NAME=PATH"
-            ),
-            Exit::NoClock => write!(f, "{program}: no clock: give --epoch N"),
-            Exit::CantRead(path) => write!(f, "{program}: can't read {path}"),
-            Exit::CantReadBy(path, why) => write!(f, "{program}: can't read {path}: {why}"),
-            Exit::NamesNoFile(word, why) => write!(
-                f,
-                "{program}: can't read {word}: {why}. Give http://HOST/PATH, the path of a file, or SERVER NAME"
-            ),
-            Exit::Refused(refusal, name) => {
-                write!(f, "{program}: refused {} {name}", refusal.number())
-            }
-            Exit::RefusedClient(refusal) => write!(f, "{program}: refused {}", refusal.number()),
-            Exit::NotAFileUrl(word, error) => write!(f, "{program}: can't read {word}: {error}"),
-            Exit::RefusedUrl(word, error) => write!(f, "{program}: can't read {word}: {error}"),
-            Exit::OfFile(fault) => match fault.tag() {
-                Some(tag) => write!(f, "{program}: fault {} {tag}", fault.number()),
-                None => write!(f, "{program}: fault {}", fault.number()),
-            },
-            Exit::Explained(fault) => write!(f, "{program}: {fault}"),
-            Exit::NoReport => write!(f, "{program}: no report"),
-            Exit::NoConnection(error) => {
-                write!(f, "{program}: no report: no connection: {error}")
-            }
-            Exit::NoAnswer => write!(
-                f,
-                "{program}: no report: no answer came to the last request"
-            ),
-            Exit::TooFewRequests(requests) => write!(
-                f,
-                "{program}: no report after {requests} requests. Give more: --requests N, up to 65536"
-            ),
-            Exit::NotUsed(why) => write!(f, "{program}: no report: {}", WhySentence(*why)),
-            Exit::CantListen => write!(f, "{program}: can't listen"),
-            Exit::CantListenAt(place, error) => write!(
-                f,
-                "{program}: can't listen at {place}: {error}. Give --listen HOST:PORT, as 127.0.0.1:0 for any free port"
-            ),
-            Exit::CantAccept => write!(f, "{program}: can't accept"),
-            Exit::CantWait => write!(f, "{program}: can't wait"),
-            Exit::CantWrite | Exit::ReaderGone => write!(f, "{program}: can't write"),
-            Exit::CantWriteFile(path) => write!(f, "{program}: can't write {path}"),
-            Exit::Script(ScriptError::Memory) | Exit::Memory => {
-                write!(f, "{program}: out of memory")
-            }
+            Exit::Script(ScriptError::NotAnEvent(_) | ScriptError::CantRead(_)) => write!(f, "{}", self.fault),
+            fault => write!(f, "{program}: {fault}"),
         }
     }
 }
