@@ -1,9 +1,11 @@
 -- Files that are looked at one after another.
 use Rattle.std.proofs.Common.{◌≡◌, ◌∙◌, ◌<◌, ◌≤◌, ◌+◌, ◌-◌, ℕ, List, [], ◌∷◌, ◌++◌, ap, arith, drop, length, refl, slice_index_or, slice_set, subst, sym, take}
+use Rattle.std.specs.List.{AllZip}
 use Rattle.std.specs.Prelude.{Contains}
 use Rattle.std.proofs.Math.ListN.{drop_of_length-le}
 use Rattle.std.proofs.lemmas.Grind.{drop_more_same}
 use Rattle.std.proofs.lemmas.List.{append-nil, append_assoc, drop-set-lt, drop_more, length-drop, take_all, take_more, take_more_set}
+use Rattle.std.proofs.lemmas.List.Elements.{all_zip_more}
 use Rattle.disk_files.specs.declared.watched.Watched.{Watched}
 use Rattle.disk_files.specs.Watching.{IsLookedAt}
 use Rattle.server_files.specs.Publishing.{AreLookedAt, names}
@@ -64,3 +66,34 @@ pub all_done : (first files : List Watched) (k : ℕ) → drop k files ≡ drop 
 all_done first files k same all before =
     let empty : drop k first ≡ [] = sym same ∙ drop_of_length-le files all in
     subst (λ xs. AreLookedAt first xs) (append-nil (take k files) ∙ take_all k files all) (before [] (subst (λ xs. AreLookedAt xs []) (sym empty) tt))
+
+-- ---- each of them
+
+-- the first element, or `a`
+abbrev head_or : {A : Type 0} → A → List A → A
+head_or a [] = a
+head_or a (x ∷ xs) = x
+
+-- as many files are left as were at first
+as_many : (first files : List Watched) (k : ℕ) → drop k files ≡ drop k first → length files - k ≡ length first - k
+as_many first files k same = sym (length-drop k files) ∙ ap length same ∙ length-drop k first
+
+-- one more of all files is looked at
+pub each_looked_then : (first files : List Watched) (k : ℕ) (d w : Watched) → k < length files → drop k files ≡ drop k first
+    → AllZip IsLookedAt (take k first) (take k files) → IsLookedAt (slice_index_or files k d) w
+    → AllZip IsLookedAt (take (k + 1) first) (take (k + 1) (slice_set files k w))
+each_looked_then first files k d w bound same before looked =
+    let f : Watched = slice_index_or files k d in
+    let left = as_many first files k same in
+    let within : k < length first = omega (arith, bound, left) in
+    let was : f ≡ slice_index_or first k f = ap (head_or f) (sym (drop_more files k d bound) ∙ same ∙ drop_more first k f within) in
+    subst (λ xs. AllZip IsLookedAt (take (k + 1) first) xs) (sym (take_more_set files k w bound))
+    (all_zip_more IsLookedAt first (take k files) k f w within was before looked)
+
+-- where all are passed, each is
+pub each_looked : (first files : List Watched) (k : ℕ) → drop k files ≡ drop k first → length files ≤ k
+    → AllZip IsLookedAt (take k first) (take k files) → AllZip IsLookedAt first files
+each_looked first files k same all looked =
+    let left = as_many first files k same in
+    let few : length first ≤ k = omega (arith, all, left) in
+    subst (λ xs. AllZip IsLookedAt xs files) (take_all k first few) (subst (λ xs. AllZip IsLookedAt (take k first) xs) (take_all k files all) looked)

@@ -1,5 +1,6 @@
 //! The files that are published, and those that are published anew.
 ghost use Rattle.std.specs.Prelude.{◌≡◌, ◌↔◌, All, Contains, IfErr, IsTrue, OnOk};
+ghost use Rattle.std.specs.List.{AllZip};
 ghost use Rattle.disk_files.specs.Watching.{IsLookedAt, verify_of};
 ghost use Rattle.server_files.specs.Publishing.{AreLookedAt, ArePublished, ArePublishedAnew, IsOfFiles, IsOfOne, IsPublishedOf, IsServed, KeepsOthers, KeepsOthersThan, MayBePublished, names, settings};
 
@@ -52,6 +53,7 @@ pub fn publish_all<'a, R: Files + Clock + Print + Eprint + AllocGlobal>(
     ensures err { IfErr result (IsOfFiles log.now.is_kept files.old) }
     ensures names { names files.new ≡ names files.old }
     ensures settings { settings files.new ≡ settings files.old }
+    ensures looked { OnOk result (AllZip IsLookedAt files.old files.new) }
 {
     for k in 0..files.len() {
         publish_one(log, server, &mut files[k])?;
