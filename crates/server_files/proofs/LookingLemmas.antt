@@ -14,10 +14,6 @@ use Rattle.server_files.specs.Publishing.{AreLookedAt, names}
 abbrev pub Completes : (k : ℕ) (first files : List Watched) → Type 0
 Completes k first files = (rest : List Watched) → AreLookedAt (drop k first) rest → AreLookedAt first (take k files ++ rest)
 
--- so it is where nothing was looked at yet
-pub nothing_yet : (first : List Watched) → Completes 0 first first
-nothing_yet first rest h = h
-
 -- the names after this one, as they are searched and as they were at first
 names_after : (first files : List Watched) (k : ℕ) → drop k files ≡ drop k first
     → names (take (length files - (k + 1)) (drop (k + 1) files)) ≡ names (drop (k + 1) first)

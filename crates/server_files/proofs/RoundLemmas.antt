@@ -89,7 +89,7 @@ broke_on gives files before after added s t u first old new same went round anew
 -- and a wait after a round
 pub wait_on : {F : Type 0} (gives : F → Option (List ℕ)) (files after : List Watched) (added : AddedState) (s t : ServerState) (first old new : Serving)
     → WentRound gives files added s first t old after → NoneChanges old new → NobodyComes old new → WentRound gives files added s first t new after
-wait_on gives files after added s t first old new went same nobody = waited t old new after went same (nobody_keeps old new nobody)
+wait_on gives files after added s t first old new went same nobody = waited t old new after went same nobody
 
 -- an error that is handed on is one
 pub erred : {A E : Type 0} (r : Result A E) (P : E → Type 0) → IsErrAnd r P → IsErr r

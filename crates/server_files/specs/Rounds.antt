@@ -4,7 +4,7 @@ use Rattle.std.specs.NonZero.{non_zero_usize_get}
 use Rattle.cog_server.specs.Additions.{AddedState}
 use Rattle.cog_server.specs.Server.{ServerState}
 use Rattle.server_sockets.specs.Going.{AllWentOnOrStart}
-use Rattle.server_sockets.specs.Slots.{NoneChanges, accepted_of, limits_of, slots_of, slot_count}
+use Rattle.server_sockets.specs.Slots.{NobodyComes, NoneChanges, accepted_of, limits_of, slots_of, slot_count}
 use Rattle.server_sockets.specs.declared.serving.Limits.{Limits}
 use Rattle.server_sockets.specs.declared.serving.Serving.{Serving}
 use Rattle.disk_files.specs.declared.watched.Watched.{Watched}
@@ -33,7 +33,7 @@ pub record LookedAsTheyCame (old new : Serving) (files after : List Watched) : T
   pub none : accepted_of new ≡ accepted_of old → after ≡ files
 
 -- Rounds follow each other, with the same additions and within the same limits. In each of them the files were looked at where a connection
--- was accepted. Between two of them no connection changed, and no file.
+-- was accepted. Between two of them no connection changed, none was accepted, and no file changed.
 pub data WentRound {F : Type 0} (gives : F → Option (List ℕ)) (files : List Watched) (added : AddedState) (s : ServerState) (first : Serving) :
     ServerState → Serving → List Watched → Type 0 where
   begun : WentRound gives files added s first s first files
@@ -41,7 +41,7 @@ pub data WentRound {F : Type 0} (gives : F → Option (List ℕ)) (files : List 
       → IsRound gives (names files) added t old u new → LookedAsTheyCame old new before after → KeepsLimits old new
       → WentRound gives files added s first u new after
   waited : (t : ServerState) (old new : Serving) (after : List Watched) → WentRound gives files added s first t old after → NoneChanges old new
-      → KeepsLimits old new → WentRound gives files added s first t new after
+      → NobodyComes old new → WentRound gives files added s first t new after
 
 -- Such rounds, and then one more, in which accepting failed. No file was looked at in it, also where a connection was accepted before that.
 pub record BrokeOff {F : Type 0} (gives : F → Option (List ℕ)) (files : List Watched) (added : AddedState) (s : ServerState) (first : Serving)
