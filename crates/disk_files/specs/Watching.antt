@@ -1,5 +1,5 @@
 -- Why a file of the disk isn't published, and what is remembered of the file.
-use Rattle.std.specs.Prelude.{◌≡◌, ◌⊎◌, ◌+◌, ◌-◌, ◌<◌, ℕ, IfSome, IsSome, List, Option, Some, length, take, ⊤}
+use Rattle.std.specs.Prelude.{◌≡◌, ◌⊎◌, ◌+◌, ◌-◌, ◌<◌, ℕ, Bool, IfSome, IsSome, List, Option, Some, length, not, take, ⊤}
 use Rattle.http_range.specs.declared.publication.TheConstants.{FILE_LIMIT}
 use Rattle.cog_server.specs.Server.{IsRefusal, ServerState, refusal_of}
 use Rattle.cog_server.specs.declared.error.PublishError.TheVariants.{Memory}
@@ -20,9 +20,23 @@ verify_of w = w.verify
 abbrev pub compared_of : Watched → ℕ
 compared_of w = w.compared
 
--- The file isn't read, and stays as it is. Something is remembered of it, and no comparison of its bytes is due at the moment `now`.
+-- Whether the file was looked at an odd number of times. Each call of `publish` and of `publish_changed` turns this over, whatever the call
+-- returns, and nothing else does.
+abbrev pub odd_looks_of : Watched → Bool
+odd_looks_of w = w.odd_looks
+
+-- the file was looked at an odd number of times, and so at least once
+abbrev pub IsLookedAt : Watched → Watched → Type 0
+IsLookedAt old new = odd_looks_of new ≡ not (odd_looks_of old)
+
+-- all of the file stays, but for how often it was looked at
+abbrev pub StaysButLooks : Watched → Watched → Type 0
+StaysButLooks old new = new ≡ record old { odd_looks = odd_looks_of new }
+
+-- The file isn't read, and all of it stays but for how often it was looked at. Something is remembered of it, and no comparison of its
+-- bytes is due at the moment `now`.
 abbrev pub IsUnread : ℕ → Watched → Watched → Type 0
-IsUnread now old new = IsSome (seen_of old) × IfSome (verify_of old) (λ millis. now - compared_of old < millis) × (new ≡ old)
+IsUnread now old new = IsSome (seen_of old) × IfSome (verify_of old) (λ millis. now - compared_of old < millis) × StaysButLooks old new
 
 -- if the server refuses the file, it does so by its rules for some bytes, or for memory if these rules don't refuse them
 abbrev pub IsRefusedBy : ServerState → List ℕ → WatchError → Type 0

@@ -1,5 +1,5 @@
 //! A file of the disk that a server publishes, and when to read it again.
-ghost use Rattle.std.specs.Prelude.{◌≡◌, ◌<◌, ◌≤◌, ◌+◌, ◌-◌, ◌↔◌, ◌⊎◌, ℕ, List, IfErr, IfOk, IfSome, IsSome, IsSomeAnd, IsTrue, MatchOption, None, OnErr, OnOk, Some, length, take};
+ghost use Rattle.std.specs.Prelude.{◌≡◌, ◌<◌, ◌≤◌, ◌+◌, ◌-◌, ◌↔◌, ◌⊎◌, ℕ, List, IfErr, IfOk, IfSome, IsSome, IsSomeAnd, IsTrue, MatchOption, None, OnErr, OnOk, Some, false, length, take};
 ghost use Rattle.std.specs.Duration.{as_nanos};
 ghost use Rattle.std.specs.Fs.{file_type, metadata_len};
 ghost use Rattle.std.specs.Fs.{IsFile as IsPlainFile};
@@ -8,7 +8,7 @@ ghost use Rattle.http_range.specs.declared.publication.TheConstants.{FILE_LIMIT}
 ghost use Rattle.cog_server.specs.Server.{IsRefusal, ServerState, refusal_of};
 ghost use Rattle.disk_files.specs.Published.{HasOther, IsFileOf, IsOfFile, IsPublished};
 ghost use Rattle.disk_files.specs.Settled.{IsSettledSince};
-ghost use Rattle.disk_files.specs.Watching.{IsOfDisk, IsRefusedAs, IsRefusedBy, IsRefusedOf, IsUnread, MayPass, compared_of, seen_of, verify_of};
+ghost use Rattle.disk_files.specs.Watching.{IsLookedAt, IsOfDisk, IsRefusedAs, IsRefusedBy, IsRefusedOf, IsUnread, MayPass, StaysButLooks, compared_of, odd_looks_of, seen_of, verify_of};
 ghost use Rattle.disk_files.specs.declared.watched.WatchError.TheVariants.{NotAFile, Refused};
 
 use crate::reading::{enough_of, other_bytes};
@@ -48,6 +48,8 @@ pub struct Watched<'a> {
     verify: Option<u64>,
     /// The moment of the last comparison, in milliseconds of one clock.
     compared: u64,
+    /// Whether the file was looked at an odd number of times. It serves contracts alone: that it is turned over shows a look.
+    odd_looks: bool,
 }
 
 /// Returns the stamp to remember, or `None` where a later write might not show in it, or `now` isn't known. Fails with `NotAFile` where the
@@ -157,9 +159,10 @@ impl<'a> Watched<'a> {
         ensures name { result.name ≡ name.entry }
         ensures path { result.path ≡ path.entry }
         ensures verify { verify_of result ≡ None }
-        // Nothing is remembered of it, and it wasn't compared.
+        // Nothing is remembered of it, and it was neither compared nor looked at.
         ensures unseen { seen_of result ≡ None }
         ensures uncompared { compared_of result ≡ 0 }
+        ensures unlooked { odd_looks_of result ≡ false }
     {
         Watched::verified(name, path, None)
     }
@@ -170,9 +173,10 @@ impl<'a> Watched<'a> {
         ensures name { result.name ≡ name.entry }
         ensures path { result.path ≡ path.entry }
         ensures verify { verify_of result ≡ verify }
-        // Nothing is remembered of it, and it wasn't compared.
+        // Nothing is remembered of it, and it was neither compared nor looked at.
         ensures unseen { seen_of result ≡ None }
         ensures uncompared { compared_of result ≡ 0 }
+        ensures unlooked { odd_looks_of result ≡ false }
     {
         Watched {
             name,
@@ -180,6 +184,7 @@ impl<'a> Watched<'a> {
             seen: None,
             verify,
             compared: 0,
+            odd_looks: false,
         }
     }
 
@@ -213,6 +218,7 @@ impl<'a> Watched<'a> {
         ensures path { self.new.path ≡ self.old.path }
         ensures verify { verify_of self.new ≡ verify_of self.old }
         ensures compared { compared_of self.new ≡ compared_of self.old }
+        ensures looks { odd_looks_of self.new ≡ odd_looks_of self.old }
         ensures kept { OnErr result (self.new ≡ self.old) }
     {
         law_publications_replace();
@@ -251,6 +257,7 @@ impl<'a> Watched<'a> {
         ensures path { self.new.path ≡ self.old.path }
         ensures verify { verify_of self.new ≡ verify_of self.old }
         ensures compared { compared_of self.new ≡ compared_of self.old }
+        ensures looks { odd_looks_of self.new ≡ odd_looks_of self.old }
     {
         let published = server.file(self.name.as_bytes());
         let bytes = unpublished_bytes(alloc, published, file).map_err(WatchError::CantRead)?;
@@ -285,13 +292,17 @@ impl<'a> Watched<'a> {
         // The refusal is that of a file that is too large, or that of what an open file gave.
         ensures refused_of { IfErr result (IsRefusedOf R.File.remaining server.old self.old.name.now) }
 
-        // Its name, its path and `verify` stay, and so does the moment of the last comparison. After an error all of it does.
+        // Its name, its path and `verify` stay, and so does the moment of the last comparison. After an error all of it does, but for how
+        // often it was looked at.
         ensures name { self.new.name ≡ self.old.name }
         ensures path { self.new.path ≡ self.old.path }
         ensures verify { verify_of self.new ≡ verify_of self.old }
         ensures compared { compared_of self.new ≡ compared_of self.old }
-        ensures kept { OnErr result (self.new ≡ self.old) }
+        ensures kept { OnErr result (StaysButLooks self.old self.new) }
+        // The call counts as a look, whatever it returns.
+        ensures looked { IsLookedAt self.old self.new }
     {
+        self.odd_looks = !self.odd_looks;
         look(rt, self.path)?;
         let (file, seen, size) = open(rt, self.path)?;
         if let Some(refusal) = refusal_by_length(self.name.as_bytes(), size) {
@@ -329,9 +340,12 @@ impl<'a> Watched<'a> {
         ensures name { self.new.name ≡ self.old.name }
         ensures path { self.new.path ≡ self.old.path }
         ensures verify { verify_of self.new ≡ verify_of self.old }
-        // It stays as it is, or this moment is that of the last comparison.
-        ensures compared { (self.new ≡ self.old) ⊎ (compared_of self.new ≡ now) }
+        // All of it stays but for how often it was looked at, or this moment is that of the last comparison.
+        ensures compared { StaysButLooks self.old self.new ⊎ (compared_of self.new ≡ now) }
+        // The call counts as a look, whatever it returns.
+        ensures looked { IsLookedAt self.old self.new }
     {
+        self.odd_looks = !self.odd_looks;
         let seen = look(rt, self.path)?;
         if is_unchanged(seen, self.seen) && !self.is_due(now) {
             return Ok(None);

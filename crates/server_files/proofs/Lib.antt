@@ -1,2 +1,3 @@
+pub mod LookingLemmas
 pub mod PublishingLemmas
 pub mod RoundLemmas

@@ -1,10 +1,10 @@
 -- What a server has after files of the disk were published.
-use Rattle.std.specs.Prelude.{◌≡◌, ◌≢◌, ◌⊎◌, ℕ, List, [], ◌∷◌, map, All, Any, Bool, Contains, IsSome, Option, false}
+use Rattle.std.specs.Prelude.{◌≡◌, ◌≢◌, ◌⊎◌, ℕ, List, [], ◌∷◌, map, All, Any, Bool, Contains, IsSome, Option, false, ⊤}
 use Rattle.http_range.specs.Book.{published}
 use Rattle.cog_server.specs.Server.{ServerState}
 use Rattle.disk_files.specs.declared.watched.Watched.{Watched}
 use Rattle.disk_files.specs.Published.{HasOther, IsOfFile, IsPublished}
-use Rattle.disk_files.specs.Watching.{verify_of}
+use Rattle.disk_files.specs.Watching.{IsLookedAt, verify_of}
 use Rattle.server_files.specs.declared.error.ServeFilesError.{ServeFilesError}
 use Rattle.server_files.specs.declared.error.ServeFilesError.TheVariants.{CantWrite, NotPublished}
 
@@ -44,6 +44,12 @@ ArePublishedAnew gives (name ∷ names) s t =
 pub data ArePublishedAgain {F : Type 0} (gives : F → Option (List ℕ)) (names : List (List ℕ)) (s : ServerState) : ServerState → Type 0 where
   never : ArePublishedAgain gives names s s
   again : (t u : ServerState) → ArePublishedAgain gives names s t → ArePublishedAnew gives names t u → ArePublishedAgain gives names s u
+
+-- Each file was looked at, an odd number of times. But of several files of one name only the last was, and the others stay as they are.
+abbrev pub AreLookedAt : (old new : List Watched) → Type 0
+AreLookedAt [] [] = ⊤
+AreLookedAt (f ∷ old) (g ∷ new) = (Contains (names old) f.name.now → g ≡ f) × (¬ Contains (names old) f.name.now → IsLookedAt f g) × AreLookedAt old new
+AreLookedAt old new = ⊥
 
 -- under each other name the server has what it had
 abbrev pub KeepsOthers : List ℕ → ServerState → ServerState → Type 0

@@ -1,13 +1,14 @@
 -- How connections are served round by round.
-use Rattle.std.specs.Prelude.{◌≡◌, ◌≤◌, ℕ, [], List, Option, Result, OnOk, ⊤}
+use Rattle.std.specs.Prelude.{◌≡◌, ◌<◌, ◌≤◌, ◌⊎◌, ℕ, [], IsErr, List, Option, Result, OnOk, ⊤}
 use Rattle.std.specs.NonZero.{non_zero_usize_get}
 use Rattle.cog_server.specs.Additions.{AddedState}
 use Rattle.cog_server.specs.Server.{ServerState}
 use Rattle.server_sockets.specs.Going.{AllWentOnOrStart}
-use Rattle.server_sockets.specs.Slots.{NoneChanges, accepted_of, limits_of, slots_of, slot_count}
+use Rattle.server_sockets.specs.Slots.{NobodyComes, NoneChanges, accepted_of, limits_of, slots_of, slot_count}
 use Rattle.server_sockets.specs.declared.serving.Limits.{Limits}
 use Rattle.server_sockets.specs.declared.serving.Serving.{Serving}
-use Rattle.server_files.specs.Publishing.{ArePublishedAnew}
+use Rattle.disk_files.specs.declared.watched.Watched.{Watched}
+use Rattle.server_files.specs.Publishing.{AreLookedAt, ArePublishedAnew, names}
 use Rattle.server_files.specs.declared.error.ServeFilesError.{ServeFilesError}
 use Rattle.server_files.specs.declared.error.ServeFilesError.TheVariants.{CantListen}
 
@@ -26,14 +27,30 @@ pub record IsRound {F : Type 0} (gives : F → Option (List ℕ)) (names : List 
   pub anew : ArePublishedAnew gives names s t
   pub idle : accepted_of new ≡ accepted_of old → t ≡ s
 
--- Rounds follow each other, with the same additions and within the same limits. Between two of them no connection changed.
-pub data WentRound {F : Type 0} (gives : F → Option (List ℕ)) (names : List (List ℕ)) (added : AddedState) (s : ServerState) (first : Serving) :
-    ServerState → Serving → Type 0 where
-  begun : WentRound gives names added s first s first
-  served : (t u : ServerState) (old new : Serving) → WentRound gives names added s first t old → IsRound gives names added t old u new
-      → KeepsLimits old new → WentRound gives names added s first u new
-  waited : (t : ServerState) (old new : Serving) → WentRound gives names added s first t old → NoneChanges old new → KeepsLimits old new
-      → WentRound gives names added s first t new
+-- Where a connection was accepted, the files were looked at. Where none was, each file stays as it is.
+pub record LookedAsTheyCame (old new : Serving) (files after : List Watched) : Type 0 where
+  pub came : accepted_of old < accepted_of new → AreLookedAt files after
+  pub none : accepted_of new ≡ accepted_of old → after ≡ files
+
+-- Rounds follow each other, with the same additions and within the same limits. In each of them the files were looked at where a connection
+-- was accepted. Between two of them no connection changed, none was accepted, and no file changed.
+pub data WentRound {F : Type 0} (gives : F → Option (List ℕ)) (files : List Watched) (added : AddedState) (s : ServerState) (first : Serving) :
+    ServerState → Serving → List Watched → Type 0 where
+  begun : WentRound gives files added s first s first files
+  served : (t u : ServerState) (old new : Serving) (before after : List Watched) → WentRound gives files added s first t old before
+      → IsRound gives (names files) added t old u new → LookedAsTheyCame old new before after → KeepsLimits old new
+      → WentRound gives files added s first u new after
+  waited : (t : ServerState) (old new : Serving) (after : List Watched) → WentRound gives files added s first t old after → NoneChanges old new
+      → NobodyComes old new → WentRound gives files added s first t new after
+
+-- Such rounds, and then one more, in which accepting failed. No file was looked at in it, also where a connection was accepted before that.
+pub record BrokeOff {F : Type 0} (gives : F → Option (List ℕ)) (files : List Watched) (added : AddedState) (s : ServerState) (first : Serving)
+    (u : ServerState) (new : Serving) (after : List Watched) : Type 0 where
+  pub t : ServerState
+  pub old : Serving
+  pub went : WentRound gives files added s first t old after
+  pub round : IsRound gives (names files) added t old u new
+  pub limits : KeepsLimits old new
 
 -- no connection was accepted yet, and the server has these limits, with as many slots as they say
 pub record IsNewWithin (allowed : Limits) (s : Serving) : Type 0 where
@@ -47,13 +64,13 @@ abbrev pub IsOver : Serving → Type 0
 IsOver s = ((limits_of s).connections ≤ accepted_of s) × (slots_of s ≡ [])
 
 -- A new server with these limits went through such rounds, and accepted no more connections than they allow. It ended well only when it
--- was over.
-pub record ServedWithin {F A : Type 0} (gives : F → Option (List ℕ)) (names : List (List ℕ)) (added : AddedState) (limits : Limits) (s t : ServerState)
-    (result : Result A ServeFilesError) : Type 0 where
+-- was over. Only where it ended with an error, the last round may have broken off.
+pub record ServedWithin {F A : Type 0} (gives : F → Option (List ℕ)) (files : List Watched) (added : AddedState) (limits : Limits) (s t : ServerState)
+    (after : List Watched) (result : Result A ServeFilesError) : Type 0 where
   pub first : Serving
   pub last : Serving
   pub begins : IsNewWithin limits first
-  pub went : WentRound gives names added s first t last
+  pub went : WentRound gives files added s first t last after ⊎ (IsErr result × BrokeOff gives files added s first t last after)
   pub few : accepted_of last ≤ limits.connections
   pub over : OnOk result (IsOver last)
 

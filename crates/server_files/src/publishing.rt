@@ -1,7 +1,8 @@
 //! The files that are published, and those that are published anew.
 ghost use Rattle.std.specs.Prelude.{◌≡◌, ◌↔◌, All, Contains, IfErr, IsTrue, OnOk};
-ghost use Rattle.disk_files.specs.Watching.{verify_of};
-ghost use Rattle.server_files.specs.Publishing.{ArePublished, ArePublishedAnew, IsOfFiles, IsOfOne, IsPublishedOf, IsServed, KeepsOthers, KeepsOthersThan, MayBePublished, names, settings};
+ghost use Rattle.std.specs.List.{AllZip};
+ghost use Rattle.disk_files.specs.Watching.{IsLookedAt, verify_of};
+ghost use Rattle.server_files.specs.Publishing.{AreLookedAt, ArePublished, ArePublishedAnew, IsOfFiles, IsOfOne, IsPublishedOf, IsServed, KeepsOthers, KeepsOthersThan, MayBePublished, names, settings};
 
 use crate::access_log::AccessLog;
 use crate::clock::moment;
@@ -31,6 +32,7 @@ fn publish_one<'a, R: Files + Clock + Print + Eprint + AllocGlobal>(
     ensures name { file.new.name ≡ file.old.name }
     ensures path { file.new.path ≡ file.old.path }
     ensures verify { verify_of file.new ≡ verify_of file.old }
+    ensures looked { IsLookedAt file.old file.new }
 {
     law_publications_replace();
     match file.publish(log.rt, server) {
@@ -51,6 +53,7 @@ pub fn publish_all<'a, R: Files + Clock + Print + Eprint + AllocGlobal>(
     ensures err { IfErr result (IsOfFiles log.now.is_kept files.old) }
     ensures names { names files.new ≡ names files.old }
     ensures settings { settings files.new ≡ settings files.old }
+    ensures looked { OnOk result (AllZip IsLookedAt files.old files.new) }
 {
     for k in 0..files.len() {
         publish_one(log, server, &mut files[k])?;
@@ -81,6 +84,7 @@ fn look_at<R: Files + Clock + Print + Eprint + AllocGlobal>(
     ensures name { file.new.name ≡ file.old.name }
     ensures path { file.new.path ≡ file.old.path }
     ensures verify { verify_of file.new ≡ verify_of file.old }
+    ensures looked { IsLookedAt file.old file.new }
 {
     law_publications_replace();
     match file.publish_changed(log.rt, server, moment(log.rt)) {
@@ -102,6 +106,8 @@ pub fn look_again<R: Files + Clock + Print + Eprint + AllocGlobal>(
     ensures others { KeepsOthersThan (names files.old) server.old server.new }
     ensures names { names files.new ≡ names files.old }
     ensures settings { settings files.new ≡ settings files.old }
+    // Each file is looked at, but of several files of one name only the last.
+    ensures looked { AreLookedAt files.old files.new }
 {
     for k in 0..files.len() {
         if !is_name_of_one(files[k].name, &files[k + 1..]) {

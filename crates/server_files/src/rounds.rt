@@ -1,9 +1,9 @@
 //! Serving: round by round, as connections come and are ready.
-ghost use Rattle.std.specs.Prelude.{◌≡◌, ◌⊎◌, ℕ, IfErr, IsErrAnd, OnOk, max};
+ghost use Rattle.std.specs.Prelude.{◌≡◌, ◌⊎◌, ◌<◌, ℕ, IfErr, IsErr, IsErrAnd, OnErr, OnOk, max};
 ghost use Rattle.cog_server.specs.Service.{added_of};
-ghost use Rattle.server_files.specs.Publishing.{ArePublishedAgain, ArePublishedAnew, KeepsOthersThan, names, settings};
+ghost use Rattle.server_files.specs.Publishing.{AreLookedAt, ArePublishedAgain, ArePublishedAnew, KeepsOthersThan, names, settings};
 ghost use Rattle.server_files.specs.Refused.{IsOfSockets};
-ghost use Rattle.server_files.specs.Rounds.{IsOfListening, IsOver, KeepsLimits, ServedWithin, WentRound};
+ghost use Rattle.server_files.specs.Rounds.{BrokeOff, IsOfListening, IsOver, KeepsLimits, ServedWithin, WentRound};
 ghost use Rattle.server_sockets.specs.Going.{AllWentOnOrStart};
 ghost use Rattle.server_sockets.specs.Slots.{accepted_of, slots_of};
 
@@ -83,7 +83,11 @@ fn round<R: Files + Clock + Print + Eprint + AllocGlobal>(
     ensures others { KeepsOthersThan (names files.old) server.old server.new }
     ensures names { names files.new ≡ names files.old }
     ensures settings { settings files.new ≡ settings files.old }
-    // An error is of sockets.
+    // Where a connection was accepted, the files are looked at, unless accepting failed. Where none was, each file stays as it is.
+    ensures looked { OnOk result (accepted_of serving.old < accepted_of serving.new → AreLookedAt files.old files.new) }
+    ensures unlooked { accepted_of serving.new ≡ accepted_of serving.old → files.new ≡ files.old }
+    // After an error each file stays as it is. An error is of sockets.
+    ensures err { OnErr result (files.new ≡ files.old) }
     ensures sockets { IfErr result IsOfSockets }
 {
     let now = moment(log.rt);
@@ -106,8 +110,11 @@ fn serve_rounds<R>(
 where
     R: Files + Clock + Print + Eprint + AllocGlobal,
     ensures over { OnOk result (IsOver serving.new) }
-    // Round follows round, each with these additions. Between two of them no connection changes.
-    ensures went { WentRound R.File.remaining (names files.old) (added_of additions.entry) server.old serving.old server.new serving.new }
+    // Round follows round, each with these additions. Files are looked at where a connection is accepted. Between two rounds no connection
+    // changes. After an error, the last round may have broken off.
+    ensures went { WentRound R.File.remaining files.old (added_of additions.entry) server.old serving.old server.new serving.new files.new
+        ⊎ (IsErr result
+        × BrokeOff R.File.remaining files.old (added_of additions.entry) server.old serving.old server.new serving.new files.new) }
     ensures limits { KeepsLimits serving.old serving.new }
     // What is published meanwhile is published as files are looked at, once after the other.
     ensures anew { ArePublishedAgain R.File.remaining (names files.old) server.old server.new }
@@ -143,9 +150,10 @@ pub fn serve_connections<R>(
 ) -> Result<(), ServeFilesError<'static>>
 where
     R: Files + Clock + Print + Eprint + AllocGlobal + Net,
-    // A new server with these limits serves round after round, each with these additions. Or the address can't be listened at.
-    ensures went { (IsErrAnd result IsOfListening × (server.new ≡ server.old))
-        ⊎ ServedWithin R.File.remaining (names files.old) (added_of additions.entry) limits server.old server.new result }
+    // A new server with these limits serves round after round, each with these additions. In each the files are looked at where a
+    // connection was accepted, unless accepting failed then. Or the address can't be listened at.
+    ensures went { (IsErrAnd result IsOfListening × (server.new ≡ server.old) × (files.new ≡ files.old))
+        ⊎ ServedWithin R.File.remaining files.old (added_of additions.entry) limits server.old server.new files.new result }
     // What is published meanwhile is published as files are looked at, once after the other.
     ensures anew { ArePublishedAgain R.File.remaining (names files.old) server.old server.new }
     ensures others { KeepsOthersThan (names files.old) server.old server.new }

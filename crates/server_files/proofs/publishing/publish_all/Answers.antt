@@ -1,6 +1,7 @@
 use Rattle.std.proofs.Common.{◌∙◌, sym, rules}
 use Rattle.std.proofs.lemmas.List.{length-set}
 use Rattle.server_files.specs.Publishing.{IsOfFiles}
+use Rattle.server_files.proofs.LookingLemmas.{each_looked, each_looked_then, rest_set}
 use Rattle.server_files.proofs.PublishingLemmas.{each_then, handed_on, names_set, of_files, others_then, served_then, settings_set}
 use Rattle.server_files.proofs.publishing.publish_all.Goals as goal
 
@@ -34,4 +35,10 @@ loop-k-preserved g c = record {
   each = each_then g.R.File.Read.remaining c.loop-k.files c.loop-k.k _ _ c.args.server.now c.loop-k.server c.publish_one.new.server (search rules) c.loop-k.invariant.same c.loop-k.invariant.each
       c.in_ok-publish_one.ensures.next;
   others = others_then c.loop-k.files c.loop-k.k _ _ c.args.server.now c.loop-k.server c.publish_one.new.server (search rules) c.loop-k.invariant.same c.loop-k.invariant.others c.publish_one.ensures.others;
+  rest = rest_set c.args.files.now c.loop-k.files c.loop-k.k c.publish_one.new.file c.loop-k.invariant.rest;
+  looked = each_looked_then c.args.files.now c.loop-k.files c.loop-k.k _ c.publish_one.new.file (search rules) c.loop-k.invariant.rest c.loop-k.invariant.looked
+      c.publish_one.ensures.looked;
 }
+
+pub returns-clause-looked : goal.returns-clause-looked
+returns-clause-looked g c = each_looked c.args.files.now c.loop-k.files c.loop-k.k c.loop-k.invariant.rest (search rules) c.loop-k.invariant.looked

@@ -8,7 +8,7 @@ pub returns-in-Err-clause-anew : goal.returns-in-Err-clause-anew
 returns-in-Err-clause-anew g c = never
 
 pub returns-in-Err-clause-went : goal.returns-in-Err-clause-went
-returns-in-Err-clause-went g c = inl (tt, refl)
+returns-in-Err-clause-went g c = inl (tt, refl, refl)
 
 pub returns-clause-went : goal.returns-clause-went
 returns-clause-went g c =

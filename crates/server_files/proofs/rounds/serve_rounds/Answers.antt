@@ -1,20 +1,10 @@
-use Rattle.std.proofs.Common.{◌∙◌, refl}
+use Rattle.std.proofs.Common.{◌∙◌, inl, inr, refl}
 use Rattle.cog_server.specs.Service.{added_of}
 use Rattle.server_files.specs.Publishing.{names, never}
-use Rattle.server_files.specs.Rounds.{WentRound, begun}
+use Rattle.server_files.specs.Rounds.{begun}
 use Rattle.server_files.proofs.PublishingLemmas.{again_on, others_on}
-use Rattle.server_files.proofs.RoundLemmas.{kept_on, nobody_keeps, round_on, wait_on}
-use Rattle.server_files.proofs.rounds.serve_rounds.Given as given
+use Rattle.server_files.proofs.RoundLemmas.{broke_on, erred, kept_on, nobody_keeps, round_on, wait_on}
 use Rattle.server_files.proofs.rounds.serve_rounds.Goals as goal
-use Rattle.server_files.proofs.rounds.serve_rounds.Goals.{After-round}
-
--- one more round
-went_more : (g : given.Over) (c : goal.After-round g)
-    → WentRound g.R.File.Read.remaining (names c.args.files.now) (added_of c.args.additions) c.args.server.now c.args.serving.now c.round.new.server c.round.new.serving
-went_more g c =
-    round_on g.R.File.Read.remaining (names c.args.files.now) (names c.loop.files) (added_of c.args.additions) c.args.server.now c.loop.server
-    c.round.new.server c.args.serving.now c.loop.serving c.round.new.serving c.loop.invariant.same c.loop.invariant.went c.round.ensures.went
-    c.round.ensures.anew c.round.ensures.idle c.round.ensures.limits
 
 pub returns-in_err-round-clause-others : goal.returns-in_err-round-clause-others
 returns-in_err-round-clause-others g c =
@@ -58,9 +48,11 @@ loop-preserved g c = record {
   limits = kept_on c.args.serving.now c.round.new.serving c.wait.new.self
       (kept_on c.args.serving.now c.loop.serving c.round.new.serving c.loop.invariant.limits c.round.ensures.limits)
       (nobody_keeps c.round.new.serving c.wait.new.self c.wait.ensures.nobody);
-  went = wait_on g.R.File.Read.remaining (names c.args.files.now) (added_of c.args.additions) c.args.server.now c.round.new.server c.args.serving.now
+  went = wait_on g.R.File.Read.remaining c.args.files.now c.round.new.files (added_of c.args.additions) c.args.server.now c.round.new.server c.args.serving.now
       c.round.new.serving c.wait.new.self
-      (went_more g (goal.at.loop-preserved g c).After-round)
+      (round_on g.R.File.Read.remaining c.args.files.now c.loop.files c.round.new.files (added_of c.args.additions) c.args.server.now c.loop.server
+      c.round.new.server c.args.serving.now c.loop.serving c.round.new.serving c.loop.invariant.same c.loop.invariant.went c.round.ensures.went
+      c.round.ensures.anew c.round.ensures.idle c.round.ensures.limits c.in_ok-round.ensures.looked c.round.ensures.unlooked)
       c.wait.ensures.same c.wait.ensures.nobody;
   anew = again_on g.R.File.Read.remaining (names c.args.files.now) (names c.loop.files) c.args.server.now c.loop.server c.round.new.server c.loop.invariant.same
       c.loop.invariant.anew c.round.ensures.anew;
@@ -69,15 +61,24 @@ loop-preserved g c = record {
 
 pub returns-then-is_over-clause-went : goal.returns-then-is_over-clause-went
 returns-then-is_over-clause-went g c =
-    went_more g (goal.at.returns-then-is_over-clause-went g c).After-round
+    inl (round_on g.R.File.Read.remaining c.args.files.now c.loop.files c.round.new.files (added_of c.args.additions) c.args.server.now c.loop.server
+    c.round.new.server c.args.serving.now c.loop.serving c.round.new.serving c.loop.invariant.same c.loop.invariant.went c.round.ensures.went
+    c.round.ensures.anew c.round.ensures.idle c.round.ensures.limits c.in_ok-round.ensures.looked c.round.ensures.unlooked)
 
 pub returns-in_err-round-clause-went : goal.returns-in_err-round-clause-went
 returns-in_err-round-clause-went g c =
-    went_more g (goal.at.returns-in_err-round-clause-went g c).After-round
+    inr (
+      erred c.from_residual.result _ c.from_residual.ensures.1,
+      broke_on g.R.File.Read.remaining c.args.files.now c.loop.files c.round.new.files (added_of c.args.additions) c.args.server.now c.loop.server
+          c.round.new.server c.args.serving.now c.loop.serving c.round.new.serving c.loop.invariant.same c.loop.invariant.went c.round.ensures.went
+          c.round.ensures.anew c.round.ensures.idle c.round.ensures.limits c.in_err-round.ensures.err,
+    )
 
 pub returns-in-Err-clause-went : goal.returns-in-Err-clause-went
 returns-in-Err-clause-went g c =
-    wait_on g.R.File.Read.remaining (names c.args.files.now) (added_of c.args.additions) c.args.server.now c.round.new.server c.args.serving.now
+    inl (wait_on g.R.File.Read.remaining c.args.files.now c.round.new.files (added_of c.args.additions) c.args.server.now c.round.new.server c.args.serving.now
     c.round.new.serving c.wait.new.self
-    (went_more g (goal.at.returns-in-Err-clause-went g c).After-round)
-    c.wait.ensures.same c.wait.ensures.nobody
+    (round_on g.R.File.Read.remaining c.args.files.now c.loop.files c.round.new.files (added_of c.args.additions) c.args.server.now c.loop.server
+    c.round.new.server c.args.serving.now c.loop.serving c.round.new.serving c.loop.invariant.same c.loop.invariant.went c.round.ensures.went
+    c.round.ensures.anew c.round.ensures.idle c.round.ensures.limits c.in_ok-round.ensures.looked c.round.ensures.unlooked)
+    c.wait.ensures.same c.wait.ensures.nobody)
