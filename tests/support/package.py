@@ -14,12 +14,6 @@ def seek_numpy():
     if importlib.util.find_spec('numpy') is None and sys.executable != '/usr/bin/python3' and os.path.exists('/usr/bin/python3'):
         os.execv('/usr/bin/python3', ['/usr/bin/python3', *sys.argv])
 
-def with_numpy(name):
-    """Goes on in a Python that has numpy, or says that none has."""
-    seek_numpy()
-    if importlib.util.find_spec('numpy') is None:
-        sys.exit(f'{name}: numpy is missing (apt-get install python3-numpy python3-rasterio)')
-
 def install(place):
     """Installs the package into this folder from a copy of its own, and puts it and the tests' modules first among the paths."""
     source = os.path.join(place, 'source')
