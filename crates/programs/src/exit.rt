@@ -158,7 +158,10 @@ pub enum NotRead {
 }
 
 /// Writes why a script isn't read: the number of its line that is no event or whose file can't be read, or that memory ran out.
-fn write_script_error<W: fmt::Write>(error: &ScriptError, f: &mut fmt::Formatter<W>) -> fmt::Result {
+fn write_script_error<W: fmt::Write>(
+    error: &ScriptError,
+    f: &mut fmt::Formatter<W>,
+) -> fmt::Result {
     match error {
         ScriptError::NotAnEvent(line) => write!(f, "line {line}: not an event"),
         ScriptError::CantRead(line) => write!(f, "line {line}: can't read"),
@@ -290,7 +293,11 @@ impl fmt::Display for ExitLine<'_> {
         let program = self.program;
         match self.fault {
             Exit::CommandLine(error) => write!(f, "{error}"),
-            Exit::Script(ScriptError::NotAnEvent(_) | ScriptError::CantRead(_)) => write!(f, "{}", self.fault),
+            Exit::Script(ScriptError::NotAnEvent(_) | ScriptError::CantRead(_)) => write!(
+                f,
+                "{}",
+                self.fault
+            ),
             fault => write!(f, "{program}: {fault}"),
         }
     }

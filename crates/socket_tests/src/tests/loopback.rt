@@ -1,9 +1,9 @@
 //! A client and a server over sockets of one process. A request is sent, the connection is served, and the answer is received.
-use super::peer::{Peer, arrived, send_text};
+use super::peer::{Peer, send_text};
 use assertion_support::expect_eq;
 use client_report::picture;
 use client_sockets::Socket;
-use cog_client::{Client, Delivered, Lost, Outcome, Pieces, Query, Report};
+use cog_client::{Client, Delivered, Lost, Outcome, Pieces, Query, Report, Transport};
 use cog_server::Stream;
 use fixtures_support::{f1, f3};
 use http_range::publication_tag;
@@ -46,7 +46,7 @@ where
     let mut socket = Socket::new(rt, peer.address.as_str());
     send_text(&mut socket, request)?;
     serve(peer)?;
-    arrived(rt.alloc(), &mut socket, &mut [0; 1000])
+    socket.receive().map_err(|_| Fail::new("nothing came"))
 }
 
 /// Takes an answer.
@@ -171,4 +171,6 @@ fn loses_each_exchange_where_nobody_listens(rt: HostRuntime) {
     expect_eq!(rt; (found, socket.starts()), ((Err(Lost), Err(Lost)), 1));
     let mut socket = Socket::new(&rt, "no address");
     assert!(rt; matches!(socket.send(REQUEST), Err(Lost)));
+    assert!(rt; matches!(socket.exchange(REQUEST), Err(Lost)));
+    expect_eq!(rt; socket.exchanges(), 1);
 }
