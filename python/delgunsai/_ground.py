@@ -2,17 +2,19 @@
 from __future__ import annotations
 
 import math
-from typing import Any, Dict, NamedTuple, Optional, Tuple
+import re
+from typing import NamedTuple, Optional, Tuple
 
 from ._info import Info
 
-MODEL, RASTER, CITATION = 1024, 1025, 1026
+RASTER, CITATION = 1025, 1026
 GEODETIC, GEODETIC_CITATION, PROJECTED, PROJECTED_CITATION = 2048, 2049, 3072, 3073
-IS_GEODETIC = 2
-"""The value of the key GTModelType."""
 IS_POINT = 2
 """The value of the key GTRasterType where tiepoints are of the middles of pixels."""
-USER_DEFINED = 32767
+UNDEFINED, USER_DEFINED = 0, 32767
+"""The values of a key of a system that name none."""
+LABELS = b'PCS Name = ', b'GCS Name = '
+"""What may stand before the name in a citation."""
 NEAR = 1e-6
 """How far from a side of a pixel, in pixels, bounds still count as on it: map coordinates are rounded."""
 
@@ -107,18 +109,20 @@ def bounds_of(info: Info) -> Bounds:
 
 
 def crs_of(info: Info) -> Optional[Crs]:
-    """Returns the coordinate reference system, or None where the keys say nothing of one."""
-    is_geodetic = info.keys.get(MODEL) == IS_GEODETIC
-    number = info.keys.get(GEODETIC if is_geodetic else PROJECTED)
-    epsg = number if isinstance(number, int) and 0 < number < USER_DEFINED else None
-    own = GEODETIC_CITATION if is_geodetic else PROJECTED_CITATION
-    text = _citation(info.keys, own) or _citation(info.keys, CITATION)
+    """Returns the coordinate reference system that `cogread describe` prints, or None where the keys say nothing of one. Without the key
+    of a projected system it is the geodetic one. With it, the geodetic citation names the base of the system, and doesn't count."""
+    number = info.keys.get(PROJECTED, info.keys.get(GEODETIC))
+    epsg = number if isinstance(number, int) and number not in (UNDEFINED, USER_DEFINED) else None
+    own = (PROJECTED_CITATION, CITATION) if PROJECTED in info.keys else (PROJECTED_CITATION, GEODETIC_CITATION, CITATION)
+    text = next((_name_in(info.keys[key]) for key in own if isinstance(info.keys.get(key), bytes)), '')
     return Crs(epsg, text) if epsg is not None or text else None
 
 
-def _citation(keys: Dict[int, Any], number: int) -> str:
-    text = keys.get(number)
-    return text.rstrip(b'\0|').decode('utf-8', 'replace') if isinstance(text, bytes) else ''
+def _name_in(citation: bytes) -> str:
+    """Returns the name in a citation. It ends before the first `|` or NUL, and a label before it is left out."""
+    name = re.split(rb'[|\0]', citation, maxsplit=1)[0]
+    label = next((label for label in LABELS if name.startswith(label)), b'')
+    return name[len(label):].decode('utf-8', 'replace')
 
 
 def window_of(bounds: Tuple[float, float, float, float], transform: Transform, sides: Tuple[int, int]) -> Tuple[int, int, int, int]:

@@ -6,6 +6,7 @@ import os
 import random
 import shutil
 import subprocess
+import types
 import unittest
 
 import delgunsai
@@ -36,6 +37,31 @@ def odd_files():
         if os.path.exists(path + '.aux.xml'):
             os.remove(path + '.aux.xml')                   # where GDAL puts what the file may not have
     return paths
+
+
+class Systems(unittest.TestCase):
+    """Which keys name the coordinate reference system, and how, by the rules of docs/READING.md."""
+
+    ROWS = [
+        ({}, None),
+        ({1025: 1}, None),
+        ({2048: 4326}, (4326, '')),
+        ({3072: 32648, 2048: 4326}, (32648, '')),
+        ({3072: 32767, 2048: 4326}, None),
+        ({3072: 0, 1026: b'own|'}, (None, 'own')),
+        ({2048: 32767, 2049: b'GCS Name = base|Datum = D|'}, (None, 'base')),
+        ({3072: 32648, 3073: b'UTM 48|', 2049: b'WGS 84|', 1026: b'all|'}, (32648, 'UTM 48')),
+        ({3072: 32648, 2049: b'WGS 84|', 1026: b'PCS Name = UTM|x|'}, (32648, 'UTM')),
+        ({2048: 4326, 2049: b'WGS 84|', 1026: b'all|'}, (4326, 'WGS 84')),
+        ({2048: 4326, 1026: b'a\0b'}, (4326, 'a')),
+        ({1026: b'\xff'}, (None, '\ufffd')),
+    ]
+    """Keys, and the code and the text of the system, if one is named."""
+
+    def test_keys(self):
+        for keys, wanted in self.ROWS:
+            with self.subTest(keys):
+                self.assertEqual(_ground.crs_of(types.SimpleNamespace(keys=keys)), wanted and _ground.Crs(*wanted))
 
 
 @needs(RASTERIO, 'rasterio with GDAL')
