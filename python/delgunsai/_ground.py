@@ -114,7 +114,8 @@ def crs_of(info: Info) -> Optional[Crs]:
     number = info.keys.get(PROJECTED, info.keys.get(GEODETIC))
     epsg = number if isinstance(number, int) and number not in (UNDEFINED, USER_DEFINED) else None
     own = (PROJECTED_CITATION, CITATION) if PROJECTED in info.keys else (PROJECTED_CITATION, GEODETIC_CITATION, CITATION)
-    text = next((_name_in(info.keys[key]) for key in own if isinstance(info.keys.get(key), bytes)), '')
+    citations = (info.keys.get(key) for key in own)
+    text = next((_name_in(citation) for citation in citations if isinstance(citation, bytes)), '')
     return Crs(epsg, text) if epsg is not None or text else None
 
 
