@@ -8,7 +8,6 @@ use crate::stream::{is_quiet, read_some};
 use client_connection::{ClientConnection, Part, Turn};
 use cog_client::{Lost, Pieces};
 use http_fields::limits::HEAD_LIMIT;
-use std::alloc::Global;
 use std::io::Write;
 use std::net::{Net, TcpStream};
 
@@ -18,7 +17,7 @@ use std::net::{Net, TcpStream};
 /// is sent once more.
 #[derive(Drop)]
 pub struct Socket<'r, R> {
-    rt: &'r R,
+    pub(crate) rt: &'r R,
     server: &'r str,
     keeps: bool,
     exchanges: u64,
@@ -66,11 +65,6 @@ impl<'r, R: Net<Stream = TcpStream> + AllocGlobal> Socket<'r, R> {
     {
         self.close();
         self.keeps = true;
-    }
-
-    /// Returns the allocator of its runtime.
-    pub(crate) fn alloc(&self) -> Global {
-        self.rt.alloc()
     }
 
     /// Ends the connection.

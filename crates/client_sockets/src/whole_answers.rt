@@ -20,7 +20,7 @@ impl<R: Net<Stream = TcpStream> + AllocGlobal> Socket<'_, R> {
         // What is returned are the next bytes of the answer.
         ensures hands { IfOk result (λ answer. (t : Socket R) × HandedOn self.old answer.items t) }
     {
-        let mut answer = Vec::new(self.alloc());
+        let mut answer = Vec::new(self.rt.alloc());
         match self.receive_pieces(&mut answer) {
             Ok(()) if !answer.is_empty() => Ok(answer),
             _ => Err(Lost),
