@@ -24,8 +24,8 @@
  *             delgunsai_client_wrote(&client, write(socket, text, length < sizeof text ? length : sizeof text)); break;
  *         case DELGUNSAI_LOOK:                  poll() without a wait, and where something is there go on as for DELGUNSAI_READ
  *             delgunsai_client_silent(&client); break;
- *         case DELGUNSAI_READ:                  into the front of `bytes`
- *             begin = 0, end = read(socket, bytes, sizeof bytes); break;
+ *         case DELGUNSAI_READ:                  into the front of `bytes`; without bytes the connection ended or failed (below)
+ *             count = read(socket, bytes, sizeof bytes), begin = 0, end = count > 0 ? count : 0; break;
  *         case DELGUNSAI_EXCHANGED: ..          as step.said says: go on, or give up, as after a 404
  *         }
  *         ..                                    where a connection ends, fails or is late: delgunsai_client_gone(&client, how, &step)
@@ -41,19 +41,19 @@
  * For each call:
  *
  *   - A pointer is to as many bytes as the length after it says, or to the struct. It isn't NULL, not even where the length is 0.
- *     The library keeps no pointer of the caller's: memory that a call is given is the caller's again when the call returns. What a
- *     call writes to, another pointer of the same call isn't to.
- *   - Any call but cog_client_new, delgunsai_client_by_url and cog_client_free of a client that was never made, or is freed, gives
- *     COG_NO_CLIENT and does nothing else.
+ *     The library keeps no pointer of the caller's: it uses none of this memory after the call returns. Memory that a call writes to
+ *     doesn't overlap the memory of another pointer of the same call.
+ *   - A handle has no client before cog_client_new or delgunsai_client_by_url returns 0, and after cog_client_free. Any other call on it
+ *     then returns COG_NO_CLIENT and does nothing else.
  *   - A handle is used by one call at a time. It may be moved to another place in memory, and isn't copied to be used twice.
  *   - The thread that makes a client makes all further calls of that handle, cog_client_free too. Threads with clients of their own
  *     call at the same time: two clients share nothing. Any thread calls cog_swap_pairs. The Python package calls one client from
  *     several threads, one at a time under a lock. That is tested, and not proved.
  *   - malloc, realloc and free are of one allocator. No call is made from a signal handler, nor in the forked child of a process with
  *     threads.
- *   - A negative result is one of COG_.. or DELGUNSAI_..; the others are said with each call.
- *   - A room is memory for a text: the result is the length of the text. Where that is more than the room's length, nothing was
- *     written, and the call can be made again with a room of that length. Only delgunsai_client_waiting writes as much as fits.
+ *   - A negative result is one of the errors COG_.. or DELGUNSAI_.. below. The comment of each call says what its other results mean.
+ *   - `room` is a buffer of the caller's, and the result is the length in bytes of what is to be written there. If the buffer is shorter,
+ *     nothing is written to it: call again with a buffer of that length. Only delgunsai_client_waiting writes as much as fits.
  *
  * What is reported is proved as the contracts of crates/delgunsai_c say, for callers that keep these rules. */
 #ifndef DELGUNSAI_H
@@ -114,7 +114,7 @@ static inline const char *delgunsai_error(int32_t result) {
     }
 }
 
-/* Room for any request of a client of cog_client_new without added fields, for that of any client, and for any tag of a file. */
+/* Lengths of buffers in bytes: for a request of a client made by cog_client_new without added fields, for any request, for any ETag. */
 #define COG_REQUEST_ROOM 1024
 #define DELGUNSAI_REQUEST_ROOM 4096
 #define COG_TAG_ROOM 64
@@ -129,10 +129,10 @@ struct cog_client {
 /* cog_client_new: makes a client of a file's name at a host, with a cache of `blocks` blocks of 16,384 bytes. The one before is freed.
  *
  *   - host, name: text, as it stands in requests: a host with its port, and a path without the slash it begins with
- *   - blocks: 66 to 4,096; of packed tiles as many bytes are kept unpacked, and room for one tile more
+ *   - blocks: 66 to 4,096. Up to as many bytes of unpacked tiles are kept, too, and a buffer of at most 1,048,576 bytes
  *   - client: the handle; where the result is negative, it is as it was
  *
- * Gives 0, COG_HOST, COG_NAME, COG_BLOCKS, the first that stands against it, or COG_MEMORY. */
+ * Returns 0; the first of COG_HOST, COG_NAME and COG_BLOCKS that applies; or COG_MEMORY. */
 int32_t cog_client_new(const uint8_t *host, size_t host_length, const uint8_t *name, size_t name_length, uint32_t blocks,
                        struct cog_client *client);
 
@@ -143,7 +143,7 @@ int32_t cog_client_new(const uint8_t *host, size_t host_length, const uint8_t *n
  *   - target: path and query, from the slash on; what isn't allowed there is percent-encoded (RFC 3986, section 2.1)
  *   - client: the handle; where the result is negative, it is as it was
  *
- * Gives 0, DELGUNSAI_AUTHORITY, DELGUNSAI_TARGET, COG_BLOCKS, the first that stands against it, or COG_MEMORY. */
+ * Returns 0; the first of DELGUNSAI_AUTHORITY, DELGUNSAI_TARGET and COG_BLOCKS that applies; or COG_MEMORY. */
 int32_t delgunsai_client_by_url(const uint8_t *authority, size_t authority_length, const uint8_t *target, size_t target_length,
                                 uint32_t blocks, struct cog_client *client);
 
@@ -154,64 +154,65 @@ int32_t delgunsai_client_by_url(const uint8_t *authority, size_t authority_lengt
  * Call it before the first query. Later on, the request that is under way stays as it was written, and its answer is taken. Those that were
  * sent early without the field are made once more, by a driver over a new connection.
  *
- * Gives 0, the first of DELGUNSAI_FIELD_.. that stands against it, COG_MEMORY or COG_NO_CLIENT. */
+ * Returns 0; the first of DELGUNSAI_FIELD_.. that applies; COG_MEMORY or COG_NO_CLIENT. */
 int32_t delgunsai_client_add_field(struct cog_client *client, const uint8_t *name, size_t name_length, const uint8_t *value,
                                    size_t value_length);
 
 /* cog_client_free: frees the client of a handle, if it has one; the handle is then as one of zeros. */
 void cog_client_free(struct cog_client *client);
 
-/* cog_client_forget: drops all that is known of the file, a report that stands too; host, name, added fields, query, whether connections
- * are kept, and how far it looks ahead, stay. Gives 0 or COG_NO_CLIENT. */
+/* cog_client_forget: drops the report, all that is known of the file, and what is under way. Host, name, added fields and query stay, and
+ * so does what cog_client_keep_open and cog_client_look_ahead set. Returns 0 or COG_NO_CLIENT. */
 int32_t cog_client_forget(struct cog_client *client);
 
 /* cog_client_keep_open: writes all requests but the check without `Connection: close` from here on, so that a connection may be kept from
- * one to the next. The caller has to know then where an answer ends (RFC 9112, section 6.3), and feeds no byte after it. It ends the
- * connection after an answer that isn't used: where cog_client_end says COG_IGNORED, or COG_TOOK with the number 0. What is left of such
- * an answer could be read as the next one, and pixels can look like an answer. It ends it, too, where bytes come that no request asked
- * for. Gives 0 or COG_NO_CLIENT. */
+ * one to the next. The caller then has to know where an answer ends (RFC 9112, section 6.3), and feeds no byte after it. The caller also
+ * has to end the connection after an answer that isn't used: if cog_client_end says COG_IGNORED, or COG_TOOK with the number 0. What is
+ * left of such an answer could be read as the next one, and pixels can look like an answer. The caller has to end it, too, if bytes come
+ * that no request asked for. Returns 0 or COG_NO_CLIENT. */
 int32_t cog_client_keep_open(struct cog_client *client);
 
-/* cog_client_look_ahead: looks ahead by `blocks` blocks from here on. A request asks for the first run of blocks that are missing of the
- * range that is needed next, and for those that follow. Each of these is missing and needed later. They are up to 65 in all, as far as the
- * cache has room for them. Without this call it looks no block ahead. Gives 0 or COG_NO_CLIENT. */
+/* cog_client_look_ahead: lets each request from here on ask for up to `blocks` blocks that are needed later, 0 without this call. They
+ * follow the first run of missing blocks of the range that is needed next, without a gap, and each of them is missing, too. A request has
+ * at most 65 blocks in all, and no more than the cache has room for. Returns 0 or COG_NO_CLIENT. */
 int32_t cog_client_look_ahead(struct cog_client *client, uint32_t blocks);
 
 /* cog_client_open_window: asks for the samples of w columns from x and h rows from y, in pixels of the level of this number, instead
- * of the query before. What is known of the file stays. Gives 0 or COG_NO_CLIENT. */
+ * of the query before. What is known of the file stays. Returns 0 or COG_NO_CLIENT. */
 int32_t cog_client_open_window(struct cog_client *client, uint32_t x, uint32_t y, uint32_t w, uint32_t h, uint32_t level);
 
-/* cog_client_open_columns: the same, in pixels of level 0, of the smallest level in which the window is at least `columns` columns wide,
- * before it is rounded outwards, level 0 if there is none. Gives 0 or COG_NO_CLIENT. */
+/* cog_client_open_columns: asks for the samples of a window that is given in pixels of level 0. They are of the smallest level in which the
+ * window is at least `columns` columns wide, before it is rounded outwards. If there is none, they are of level 0. Returns 0 or
+ * COG_NO_CLIENT. */
 int32_t cog_client_open_columns(struct cog_client *client, uint32_t x, uint32_t y, uint32_t w, uint32_t h, uint32_t columns);
 
-/* cog_client_open_info: asks for the sides of the levels and what georeferences the image. Gives 0 or COG_NO_CLIENT. */
+/* cog_client_open_info: asks for the sides of the levels and what georeferences the image. Returns 0 or COG_NO_CLIENT. */
 int32_t cog_client_open_info(struct cog_client *client);
 
-/* cog_client_request: goes on as far as the known bytes reach, and lays the text of the next request into the room: a GET with a Range.
- * Gives the text's length; 0, where nothing is asked: a report stands, or there is no query; COG_MEMORY or COG_NO_CLIENT. Asked again
- * before an answer it gives the same text, but for what cog_client_keep_open, cog_client_look_ahead and added fields changed since. An
- * unfinished answer is dropped, as by cog_client_open_.. and cog_client_forget too: what is left of it isn't fed. After COG_MEMORY nothing
- * is asked, and the room is as it was; what is known of the file stays, and the call may be made again. */
+/* cog_client_request: goes on as far as the known bytes reach, and writes the text of the next request to the room: a GET with a Range.
+ * Returns the text's length; 0 if a report stands, or there is no query; COG_MEMORY or COG_NO_CLIENT. If it is called again before an
+ * answer, the text is the same, except for what cog_client_keep_open, cog_client_look_ahead and added fields changed since. An unfinished
+ * answer is dropped, as by cog_client_open_.. and cog_client_forget: don't feed what is left of it. After COG_MEMORY there is no request,
+ * and the room is as it was. What is known of the file stays, and the call may be made again. */
 int64_t cog_client_request(struct cog_client *client, uint8_t *room, size_t length);
 
-/* cog_client_later: lays a request's text into the room, of those that may be sent before the answer to the one comes which
- * cog_client_request gave last: the one at place `index`, 0 for the next. It may be sent ahead of its time, on the same connection too;
- * its answer is taken once cog_client_request gives the same text. Another one may come in its place, as where the file is replaced or an
- * answer is cut. Gives the text's length; 0, where there is none at this place; COG_MEMORY or COG_NO_CLIENT. It is always 0 before
- * cog_client_request, cog_client_keep_open and cog_client_look_ahead. After them, where it looks ahead by at least one block, it is 0 only
- * where each later block in reach is there, or a request before this place asks for it. In reach are the byte ranges that are known to be
- * needed, up to the first that lies before an earlier one, ends after the file, or has no room in the cache. It changes nothing of the
- * client. */
+/* cog_client_later: writes the text of an early request to the room. That is one that may be sent before the answer to the last request
+ * of cog_client_request came, on the same connection, too. `index` counts them in their order, from 0. Its answer is taken once
+ * cog_client_request returns the same text. That call may return another text instead, as after a replaced file or a cut answer. Returns
+ * the text's length; 0 if there is no early request at this index; COG_MEMORY or COG_NO_CLIENT. There is none until cog_client_request,
+ * cog_client_keep_open and cog_client_look_ahead with a number above 0 were all called. After them the result is 0 only if each later
+ * block in reach is there, or an early request before this one asks for it. In reach are the byte ranges that are known to be needed, in
+ * their order. They end before one that lies before an earlier one, ends after the file, or has no room in the cache. The client stays as
+ * it was. */
 int64_t cog_client_later(struct cog_client *client, uint32_t index, uint8_t *room, size_t length);
 
-/* cog_client_begin: begins an answer to the request. An unfinished one is dropped. Gives 0 or COG_NO_CLIENT. */
+/* cog_client_begin: begins an answer to the request. An unfinished one is dropped. Returns 0 or COG_NO_CLIENT. */
 int32_t cog_client_begin(struct cog_client *client);
 
-/* cog_client_feed: takes the next bytes of the answer, from its status line on, as many as there are. After COG_MEMORY the rest of the
- * answer is dropped: what is fed of it changes nothing, until cog_client_end, or a call that drops an unfinished answer: cog_client_begin,
- * cog_client_request, cog_client_open_window, cog_client_open_columns, cog_client_open_info or cog_client_forget. Where no answer is
- * unfinished, one begins here. Gives 0, COG_MEMORY or COG_NO_CLIENT. */
+/* cog_client_feed: takes the next bytes of the answer, from its status line on, as many as there are. If no answer is unfinished, one
+ * begins here. After COG_MEMORY the rest of the answer is dropped: what is fed of it changes nothing. That holds until cog_client_end, or
+ * until a call that drops an unfinished answer: cog_client_begin, cog_client_request, cog_client_open_.. or cog_client_forget. Returns 0,
+ * COG_MEMORY or COG_NO_CLIENT. */
 int32_t cog_client_feed(struct cog_client *client, const uint8_t *piece, size_t length);
 
 /* What is said of an answer. */
@@ -227,10 +228,11 @@ enum {
                         * docs/PROFILE.md, 1 to 12; 3 is another status */
 };
 
-/* cog_client_end: ends the answer, whole or cut, and goes on as far as the known bytes reach. The caller's said is written where the result
- * is 0. Of an answer whose rest was dropped it says COG_IGNORED, 1 (cut), though blocks of it may be stored, and its revision may be the
- * one that is read from now on. Gives 0, COG_MEMORY or COG_NO_CLIENT. After COG_MEMORY the answer has ended too: blocks of it may be
- * stored, its revision is the one that is read from now on, and cog_client_request goes on; this call isn't made again for it. */
+/* cog_client_end: ends the answer, whole or cut, and goes on as far as the known bytes reach. Writes to `said` what the answer did, if the
+ * result is 0. Of an answer whose rest was dropped it says COG_IGNORED with the number 1 (cut). Blocks of that answer may be stored all the
+ * same, and its revision may be the one that is read from now on. Returns 0, COG_MEMORY or COG_NO_CLIENT. After COG_MEMORY the answer has
+ * ended, too: go on with cog_client_request, and don't repeat this call. Blocks of that answer may be stored, and its revision is the one
+ * that is read from now on. */
 int32_t cog_client_end(struct cog_client *client, struct cog_said *said);
 
 /* What is reported; 0 in what isn't of its kind. */
@@ -268,31 +270,30 @@ enum {
     COG_FAULT_KEY_PLACE = 18,    /* a geo key's values aren't where it says */
 };
 
-/* cog_client_report: lays the report that stands, and the file's tag, a strong validator with its quotes, into the room. The report
- * stands until the next query or cog_client_forget. Gives the tag's length; 0, where no report stands, and then nothing is written;
- * COG_NO_CLIENT. The report is written also where the room is too small for the tag. */
+/* cog_client_report: writes the numbers of the report to `report`, and the file's ETag, with its quotes, to the room. The report stands
+ * until the next query or cog_client_forget. Returns the ETag's length; 0 if no report stands, and then nothing is written; COG_NO_CLIENT.
+ * `report` is written even if the room is too small for the ETag. */
 int64_t cog_client_report(struct cog_client *client, struct cog_report *report, uint8_t *room, size_t length);
 
-/* cog_client_pixels: the samples of the window that is reported, into the room: pixel by pixel, row by row, width * height * samples of one
- * byte, or of two, the most significant one first. Gives their bytes' count, COG_NO_REPORT, COG_OTHER_REPORT or COG_NO_CLIENT. */
+/* cog_client_pixels: writes the samples of the reported window to the room, row by row, and in a row pixel by pixel. A sample has one byte,
+ * or two with the most significant one first. Returns the number of bytes, COG_NO_REPORT, COG_OTHER_REPORT or COG_NO_CLIENT. */
 int64_t cog_client_pixels(struct cog_client *client, uint8_t *room, size_t length);
 
-/* cog_swap_pairs: exchanges the bytes of each pair in the room, bytes 0 and 1, 2 and 3 and so on: samples of two bytes in the order of a
- * computer that has the least significant one first. A last byte without a pair stays. It is of no client. */
+/* cog_swap_pairs: exchanges the bytes of each pair in the room: bytes 0 and 1, 2 and 3, and so on. So a computer that has the least
+ * significant byte first can use samples of 16 bits. A last byte without a pair stays. The call needs no client. */
 void cog_swap_pairs(uint8_t *room, size_t length);
 
-/* cog_client_info: lays the text of the Info that is reported into the room: the lines of `cogread info`. Gives its length,
+/* cog_client_info: writes the text of the reported Info to the room: the lines of `cogread info`. Returns its length,
  * COG_NO_REPORT, COG_OTHER_REPORT, COG_MEMORY or COG_NO_CLIENT. */
 int64_t cog_client_info(struct cog_client *client, uint8_t *room, size_t length);
 
-/* cog_client_check: the text of a request that asks whether the file still has the tag of what is known: a HEAD with If-None-Match. Gives
- * its length; 0, where nothing is known; COG_MEMORY or COG_NO_CLIENT. It changes nothing of the client. The text
- * always has `Connection: close`. */
+/* cog_client_check: writes to the room a request that asks whether the file still has the known ETag. It is a HEAD with If-None-Match and
+ * `Connection: close`. Returns its length; 0 if nothing is known of the file; COG_MEMORY or COG_NO_CLIENT. The client stays as it was. */
 int64_t cog_client_check(struct cog_client *client, uint8_t *room, size_t length);
 
 enum { COG_SAME = 1, COG_OTHER = 2, COG_UNKNOWN = 3 /* for this reason: 1 to 6 or 9 as COG_IGNORED, or 12: nothing is known */ };
 
-/* cog_client_current: reports what the answer to a check, or a front of it, says of the tag. It changes nothing of the client. Gives 0 or
+/* cog_client_current: reports what the answer to a check, or a front of it, says of the tag. It changes nothing of the client. Returns 0 or
  * COG_NO_CLIENT. */
 int32_t cog_client_current(struct cog_client *client, const uint8_t *answer, size_t length, struct cog_said *said);
 
@@ -301,18 +302,18 @@ int32_t cog_client_current(struct cog_client *client, const uint8_t *answer, siz
  * These calls keep all rules of a connection: which request is sent and when, which answer is taken for it, where an answer ends, when the
  * connection goes on after it, and what is sent once more. A driver has one connection at a time, plain or with TLS. It calls
  * delgunsai_client_go_on with the bytes that it read and that weren't taken so far, and does what the step says, until it is
- * DELGUNSAI_OVER. The client's requests are to be such that connections are kept: call cog_client_keep_open first. example.c is such
- * a driver. Who calls these doesn't call cog_client_request, _begin, _feed and _end. */
+ * DELGUNSAI_OVER. Call cog_client_keep_open first, so that connections can be kept. example.c is such a driver. A driver doesn't call
+ * cog_client_request, cog_client_begin, cog_client_feed and cog_client_end. */
 
 /* What a driver is to do next. */
 enum {
     DELGUNSAI_CONNECT = 1,   /* end the connection, if there is one, make a new one, and call delgunsai_client_connected. All bytes that
                               * were handed on are taken: they are of the connection that ended */
-    DELGUNSAI_WRITE = 2,     /* write what delgunsai_client_waiting lays, and call delgunsai_client_wrote */
+    DELGUNSAI_WRITE = 2,     /* send what delgunsai_client_waiting writes, and call delgunsai_client_wrote */
     DELGUNSAI_READ = 3,      /* read bytes, at least one, and hand them on */
     DELGUNSAI_LOOK = 4,      /* see whether bytes are there without waiting for them: hand them on, or call delgunsai_client_silent */
     DELGUNSAI_EXCHANGED = 5, /* an exchange is over: `said`, `status` and `alone` say what it brought; go on */
-    DELGUNSAI_CHECKED = 6,   /* the check is over: `said` is as cog_client_current lays it */
+    DELGUNSAI_CHECKED = 6,   /* the check is over: `said` is as cog_client_current writes it */
     DELGUNSAI_OVER = 7,      /* a report stands, there is no query, or no exchange is left: call cog_client_report */
     DELGUNSAI_MORE = 8       /* go on */
 };
@@ -328,43 +329,43 @@ enum {
 struct delgunsai_step {
     uint64_t taken;          /* how many of the bytes were taken, from the first on; the others are handed on with the next call */
     uint32_t kind;           /* what to do next */
-    struct cog_said said;    /* after an exchange, what the answer did, as cog_client_end lays it; after a check, what it says */
+    struct cog_said said;    /* after an exchange, what the answer did, as cog_client_end writes it; after a check, what it says */
     uint32_t status;         /* after an exchange or a check, the status code of the answer; 0 where no whole head came */
     uint32_t alone;          /* after an exchange, 1 where no other request was sent with its request; no contract says so */
 };
 
-/* delgunsai_client_go_on: takes bytes that came, and says what to do next. `length` is 0 where nothing came since the last call. Bytes
- * that nothing asked for end the connection, and are taken. Gives 0, COG_MEMORY or COG_NO_CLIENT. After COG_MEMORY an exchange that was
- * under way is over, with its connection; what was taken of its answer stays. Where memory is wanting for a request alone, a kept
- * connection stays. */
+/* delgunsai_client_go_on: takes bytes that came, and writes to `step` what to do next. `bytes` are those that earlier calls didn't take,
+ * and after them those that came since; `length` is 0 if there are none. Bytes that nothing asked for end the connection, and are taken.
+ * Returns 0, COG_MEMORY or COG_NO_CLIENT. After COG_MEMORY an exchange that was under way is over, with its connection; what was taken of
+ * its answer stays. If only the text of the next request couldn't be made, a kept connection stays. */
 int32_t delgunsai_client_go_on(struct cog_client *client, const uint8_t *bytes, size_t length, struct delgunsai_step *step);
 
-/* delgunsai_client_waiting: lays the first of the bytes that are to be written into the room, as many as it has room for. Gives how many
- * there are in all, or COG_NO_CLIENT. */
+/* delgunsai_client_waiting: writes to the room the first of the bytes that are to be sent, as many as it holds. Returns how many there are
+ * in all, or COG_NO_CLIENT. */
 int64_t delgunsai_client_waiting(struct cog_client *client, uint8_t *room, size_t length);
 
-/* delgunsai_client_wrote: notes that the first `count` bytes that waited were written. Gives 0; COG_ORDER, where fewer waited, or neither a
+/* delgunsai_client_wrote: notes that the first `count` bytes that waited were written. Returns 0; COG_ORDER if fewer waited, or if neither a
  * check nor an exchange with a connection is under way; or COG_NO_CLIENT. */
 int32_t delgunsai_client_wrote(struct cog_client *client, size_t count);
 
-/* delgunsai_client_connected: notes that a new connection is there. Gives 0; COG_ORDER, where a check has one already, or neither a check
+/* delgunsai_client_connected: notes that a new connection is there. Returns 0; COG_ORDER, where a check has one already, or neither a check
  * nor an exchange is under way; COG_MEMORY or COG_NO_CLIENT. */
 int32_t delgunsai_client_connected(struct cog_client *client);
 
-/* delgunsai_client_silent: notes that nothing came on the connection before the request is written. Gives 0 or COG_NO_CLIENT. */
+/* delgunsai_client_silent: notes that nothing came on the connection before the request is written. Returns 0 or COG_NO_CLIENT. */
 int32_t delgunsai_client_silent(struct cog_client *client);
 
 /* delgunsai_client_gone: notes that the connection is gone, and how, or couldn't be made. Bytes that weren't taken are dropped. The step is
- * DELGUNSAI_MORE, or DELGUNSAI_EXCHANGED where the exchange is over by it. Gives 0, COG_MEMORY or COG_NO_CLIENT. */
+ * DELGUNSAI_MORE, or DELGUNSAI_EXCHANGED where the exchange is over by it. Returns 0, COG_MEMORY or COG_NO_CLIENT. */
 int32_t delgunsai_client_gone(struct cog_client *client, uint32_t how, struct delgunsai_step *step);
 
 /* delgunsai_client_exchanges: lets each query from here on take at most `exchanges` exchanges, 65,536 without this call. What is under way
- * is dropped with its connection, as by cog_client_open_.. and cog_client_forget. Gives 0 or COG_NO_CLIENT. */
+ * is dropped with its connection, as by cog_client_open_.. and cog_client_forget. Returns 0 or COG_NO_CLIENT. */
 int32_t delgunsai_client_exchanges(struct cog_client *client, uint32_t exchanges);
 
 /* delgunsai_client_ask_same: begins the check whether the file still is the one that was read last. The next steps are of the check, up to
- * DELGUNSAI_CHECKED. It has a connection of its own: whatever it gives, what is under way is dropped, and its connection ends. Gives 1; 0,
- * where nothing is known of the file; COG_MEMORY or COG_NO_CLIENT. */
+ * DELGUNSAI_CHECKED. It has a connection of its own: whatever comes of it, what is under way is dropped, and its connection ends. Returns 1;
+ * 0 if nothing is known of the file; COG_MEMORY or COG_NO_CLIENT. */
 int32_t delgunsai_client_ask_same(struct cog_client *client);
 
 #ifdef __cplusplus

@@ -6,11 +6,12 @@
 ...     a = f.read(x=3000, y=2000, width=256, height=256)
 ([(8192, 5632), (4096, 2816)], '"1-1"')
 
-Read are tiled files of 8 or 16 bits without sign, grey or RGB, uncompressed (as `gdal_translate -of COG -co COMPRESS=NONE` writes them) or
-by PackBits, from servers that answer ranges under a strong tag; docs/PROFILE.md says all. A window has at most 4,194,304 samples. Proxies
-(`http_proxy`) aren't used.
+The package reads tiled files with unsigned samples of 8 or 16 bits, grey or RGB. Their tiles are uncompressed (as
+`gdal_translate -of COG -co COMPRESS=NONE` writes them) or packed by PackBits. A server has to answer byte ranges, and to send strong ETags.
+docs/PROFILE.md has all rules. A window has at most 4,194,304 samples. Proxies (`http_proxy`) aren't used.
 
-What is asked for, how answers are taken, and what is reported, is the proved core's (delgunsai.h); this package brings the network.
+The proved core (delgunsai.h) decides which bytes are requested, how answers are read, and what is returned. The package brings the
+network.
 """
 from ._errors import (BadUrl, DirCount, DirPlace, Error, FieldType, FileFault, Header, KeyHead, KeyOrder, KeyPlace, Late, LevelShape,
                       Lost, Missing, NotUsed, OutOfMemory, Outside, Packet, PastEnd, TagOrder, TileArray, TileSize, TooLarge, TooManyDirs,

@@ -25,11 +25,11 @@ AHEAD = 64
 EXCHANGES = 65536
 MEMORY = -4
 FIELDS = {
-    -11: 'its name is a token (RFC 9110, section 5.6.2)',
+    -11: 'its name must be a token (RFC 9110, section 5.6.2)',
     -12: 'the package writes it itself, or it would change the connection or the answer',
-    -13: 'its value is visible ASCII, with spaces and tabs inside',
-    -14: 'there are at most 16 fields',
-    -15: 'all fields together have at most 1,024 bytes, with four for each',
+    -13: 'its value must be visible ASCII, with spaces and tabs inside',
+    -14: 'there may be at most 16 fields',
+    -15: 'all fields together may have at most 1,024 bytes, with four for each',
 }
 """Why a field isn't added."""
 HUGE = 1 << 22

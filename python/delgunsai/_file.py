@@ -34,8 +34,9 @@ UNSATISFIABLE = 416
 
 
 class File(Raster):
-    """A file that is read by windows, each of one revision. A file that was replaced is read as the new one from then on, never mixed.
-    `tag` is the ETag of the revision that was read last. `read_tagged()` returns that of an array, and `same()` asks the server.
+    """A file that is read by windows, each of one revision: one version of the file, with its ETag. A file that was replaced is read as the
+    new one from then on, never mixed. A level is the full image (level 0) or one of its overviews. `tag` is the ETag of the revision that
+    was read last. `read_tagged()` returns that of an array, and `same()` asks the server.
 
     >>> with open_file('docs/example.tif') as f:                                    # doctest: +SKIP
     ...     f.read(x=24, y=30, width=16, height=4).shape
@@ -112,9 +113,10 @@ class File(Raster):
         Raises `FileFault` where something is wrong with the file or the window, and `OutOfMemory`. Raises `NotUsed` where an answer can't
         be used, `Lost` where none came, and `Late` after the `deadline`. Raises `ssl.SSLCertVerificationError` where the server's
         certificate isn't trusted, and the exception of the standard `open` where a file of the disk can't be opened. Raises `ValueError`
-        for a number outside 0 to 4,294,967,295, for bounds that pass a side of the image, and for a closed file. Raises `TypeError` for
-        what is no number. Raises `RuntimeError` where a signal handler calls it within a call of the same file. It does so, too, in a
-        process that the handler makes there.
+        for a number outside 0 to 4,294,967,295, an `out_shape` below 1, and a closed file. So it does for bounds that have no area or pass a
+        side of the image. It also does for a level that isn't there, if a whole level or bounds are asked for. Raises `TypeError` for what
+        is no number, for a window that lacks one, for a window with `bounds`, and for a level with `out_shape`. Raises `RuntimeError` where
+        a signal handler calls it within a call of the same file, and in a process that the handler makes there.
 
         >>> f.read(x=24, y=30, width=4, height=2).tolist()
         [[216, 221, 226, 231], [217, 222, 227, 232]]
@@ -162,7 +164,7 @@ class File(Raster):
                      connections: SupportsIndex = 8) -> List[NDArray[Any]]:
         """Returns the samples of each of `windows` (x, y, width, height), in their order. All are of one revision, which `tag` has then.
 
-        They are read side by side over at most `connections` connections, 1 to 64. Each has a thread, and a cache of `blocks` blocks, which
+        They are read in parallel over at most `connections` connections, 1 to 64. Each has a thread, and a cache of `blocks` blocks, which
         is kept until `close`. Up to 64 arrays may share one piece of memory, of at most 4 MiB (8 MiB for 16 bits). So `copy()` an array that
         you keep without the others.
 

@@ -20,14 +20,15 @@ def open(place: Union[str, 'os.PathLike[str]'], *, blocks: SupportsIndex = 256, 
          headers: Optional[Mapping[str, str]] = None) -> File:
     """Opens a file at a URL of http or https, or of the disk. Nothing is read yet.
 
-    A text with :// after its first word, or that begins with http: or https:, is a URL. Any other text, and each `os.PathLike`, is a path.
+    A text is a URL if it begins with http: or https:, or has :// before any other slash. Any other text, and each `os.PathLike`, is a path.
 
     `blocks` is the size of the cache, in blocks of 16,384 bytes: 66 to 4,096. Unpacked bytes of packed tiles are kept beside it, up to the
     same size. The other parameters are of URLs alone. `timeout` is in seconds, or None for ever. Each attempt to connect may take that long
-    (one for each address of the host), each TLS handshake, and each read and write. An exchange that brought nothing is tried three times,
-    so `Lost` may take several of them. `deadline` is how many seconds a whole call may take, or None for ever. `context` says which
-    certificates are trusted; without it they are those of the system. `headers` are fields that are added to each request, such as
-    `Authorization`. Their values are shown nowhere. Proxies aren't used.
+    (one for each address of the host), each TLS handshake, and each read and write. An exchange (a request and its answer) that brought
+    nothing is tried three times, so it may take several timeouts until `Lost` is raised. `deadline` is how many seconds a whole call may
+    take, or None for ever. A call that reads the info and then windows has that time for each reading. `context` says which certificates
+    are trusted; without it they are those of the system. `headers` are fields that are added to each request, such as `Authorization`.
+    Their values are shown nowhere. Proxies aren't used.
 
     Raises `BadUrl` where the URL is outside the rules, and the `OSError` of the standard `open` where the path can't be opened. Raises
     `ValueError` where a number is outside its limits, or a field can't be added. Raises `TypeError` for another type.

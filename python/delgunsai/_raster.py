@@ -133,8 +133,8 @@ class Raster:
         return self.transform.at(col + 0.5, row + 0.5)
 
     def percentiles(self, low: float = 2, high: float = 98) -> Tuple[float, float]:
-        """Returns the samples below which `low` and `high` per cent lie of those of the smallest level, all bands together. Of a level
-        above 1,024 by 1,024 pixels the middle counts.
+        """Returns the percentiles `low` and `high` (0 to 100) of the samples of the smallest level, all bands together. Of a side with more
+        than 1,024 pixels only the middle 1,024 count.
 
         >>> f.percentiles(0, 100)
         (42.0, 240.0)

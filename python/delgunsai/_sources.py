@@ -79,7 +79,7 @@ class Address:
 
     def __init__(self, url: str) -> None:
         if re.search(r'[\x00-\x20\x7f]', url):
-            raise BadUrl(url, 'it has no spaces and no control characters')
+            raise BadUrl(url, 'it must have no spaces and no control characters')
         try:
             parts = urlsplit(url)
             port = parts.port
@@ -88,23 +88,23 @@ class Address:
         self.url = url
         self.secure = parts.scheme == 'https'
         if parts.scheme not in ('http', 'https'):
-            raise BadUrl(url, 'its scheme is http or https')
+            raise BadUrl(url, 'its scheme must be http or https')
         if parts.username is not None or parts.password is not None:
-            raise BadUrl(url, 'it has no user and no password')
+            raise BadUrl(url, 'it must have no user and no password')
         if parts.fragment or '#' in url:
-            raise BadUrl(url, 'it has no fragment')
+            raise BadUrl(url, 'it must have no fragment')
         if port == 0:
-            raise BadUrl(url, 'its port is 1 to 65535')
+            raise BadUrl(url, 'its port must be 1 to 65535')
         self.host = parts.hostname or ''
         self.port = port or PORTS[parts.scheme]
         if len(parts.netloc) > 255 or not (NAMED.fullmatch(parts.netloc) or _is_literal(parts.netloc)):
-            raise BadUrl(url, 'its host is a name, an IPv4 address or an IPv6 address in brackets, with its port at most 255 characters')
+            raise BadUrl(url, 'its host must be a name, an IPv4 address or an IPv6 address in brackets, with its port at most 255 characters')
         if not parts.netloc.startswith('[') and not re.fullmatch(r'[^.]{1,63}(\.[^.]{1,63})*\.?', self.host):
-            raise BadUrl(url, 'its host is there, and each label of it has 1 to 63 characters')
+            raise BadUrl(url, 'its host must be there, and each label of it must have 1 to 63 characters')
         self.netloc = parts.netloc.encode('ascii')
         target = (parts.path or '/') + ('?' + parts.query if '?' in url else '')
         if len(target) > 2048 or not TARGET.fullmatch(target):
-            raise BadUrl(url, 'its path and query are at most 2,048 bytes, each of them allowed there or percent-encoded')
+            raise BadUrl(url, 'its path and query must be at most 2,048 bytes, each of them allowed there or percent-encoded')
         self.target = target.encode('ascii')
 
 
