@@ -161,7 +161,9 @@ fn publishes_what_a_file_states(rt: HostRuntime) -> Result<(), Fail> {
         rt: &rt,
         bytes: Cell::new(b"in memory"),
     };
-    assert!(rt; matches!(read_file(&stating, PATH), Ok(bytes) if bytes.as_slice() == b"in memory".as_slice()));
+    assert!(rt;
+        matches!(read_file(&stating, PATH), Ok(bytes) if bytes.as_slice() == b"in memory".as_slice())
+    );
     let mut server = Server::new(rt.alloc(), 7);
     let mut watched = Watched::new("a", PATH);
     assert!(rt; publish(&stating, &mut server, &mut watched).is_ok());
