@@ -3,6 +3,7 @@ pub mod Commands
 pub mod Files
 pub mod Headers
 pub mod Lines
+pub mod LocalFiles
 pub mod NamedFiles
 pub mod Number
 pub mod Origins

@@ -1,11 +1,14 @@
 -- The exit statuses of faults.
-use Rattle.std.specs.Prelude.{◌≡◌, ◌≢◌, ◌⊎◌, ℕ, Bool, true, false, ⊤}
+use Rattle.std.specs.Prelude.{◌≡◌, ◌≢◌, ◌⊎◌, ℕ, Bool, true, false, Option, Some, None, ⊤}
+use Rattle.std.specs.declared.io.Error.{Error}
 use Rattle.clap.specs.Words.{kind_of}
 use Rattle.clap.specs.declared.error.kind.ErrorKind.{ErrorKind}
 use Rattle.clap.specs.declared.error.kind.ErrorKind.TheVariants as kind
 use Rattle.scripts.specs.declared.line.ScriptError.TheVariants as script
 use Rattle.read_command.specs.declared.error.ReadError.{ReadError}
 use Rattle.read_command.specs.declared.error.ReadError.TheVariants as reading
+use Rattle.read_progress.specs.declared.noted.Came.{Came}
+use Rattle.read_progress.specs.declared.noted.Came.TheVariants as came
 use Rattle.programs.specs.declared.exit.Exit.{Exit}
 use Rattle.programs.specs.declared.exit.Exit.TheVariants.{NotText, NotAProgram, CommandLine, NotANumber, OutOfRange, Negative, NamesNoFile, NotACoordinate, NoRectangle, NoWindow, NoWorld, NotAFile, NotAnOrigin, OneName, NoClock, Script}
 use Rattle.programs.specs.declared.exit.Exit.TheVariants.{RefusedClient, NotAFileUrl, RefusedUrl, NoFieldLine, NotAField, OfFile, Explained, NoReport, NoConnection, NoAnswer, TooFewRequests, NotUsed, CantRead, CantReadBy, Refused, CantListen, CantListenAt, CantAccept, CantWait, CantWrite, CantWriteFile, Memory, ReaderGone}
@@ -86,7 +89,15 @@ exit_of_reading (reading.NoWindow why) = NoWindow why
 exit_of_reading reading.NoWorld = NoWorld
 exit_of_reading reading.Memory = Memory
 
--- The fault of such an error. If a URL names the file, and there is no report, it is one of status 4.
-abbrev pub IsExitOf : ReadError → Bool → Exit → Type 0
-IsExitOf reading.NoReport true fault = HasStatus fault 4
-IsExitOf error is_url fault = fault ≡ exit_of_reading error
+-- The fault if no report came of all requests to a URL. It says why the last connection wasn't made, or else what the last request brought.
+abbrev pub exit_of_last : Came → Option Error → ℕ → Exit
+exit_of_last last (Some error) requests = NoConnection error
+exit_of_last came.Unsent None requests = NoAnswer
+exit_of_last came.Nothing None requests = NoAnswer
+exit_of_last (came.NotUsed why) None requests = NotUsed why
+exit_of_last (came.Brought head count) None requests = TooFewRequests requests
+
+-- The fault of such an error. If a URL names the file, and there is no report, it goes by the last request.
+abbrev pub exit_by_last : ReadError → Bool → Exit → Exit
+exit_by_last reading.NoReport true last = last
+exit_by_last error is_url last = exit_of_reading error

@@ -1,5 +1,6 @@
 //! Files of the disk that are read as if a server had them.
-ghost use Rattle.std.specs.Prelude.{◌≡◌, [], codes};
+ghost use Rattle.std.specs.Prelude.{◌≡◌, [], IfOk, codes};
+ghost use Rattle.programs.specs.LocalFiles.{IsServerOfFile};
 ghost use Rattle.transports.specs.Transports.{rest_of, served_name, served_state, source_of as source_within};
 
 use crate::exit::{Exit, NotRead};
@@ -87,7 +88,10 @@ fn unread<R: AllocGlobal>(rt: &R, error: FileError, path: &str) -> Result<Exit, 
 
 /// Makes a server in memory that has the file at a path, as it is now. Fails where the file can't be read or published, or where no memory
 /// is left.
-pub fn server_of_file<R: Files + AllocGlobal>(rt: &R, path: &str) -> Result<Server, Exit> {
+pub fn server_of_file<R: Files + AllocGlobal>(rt: &R, path: &str) -> Result<Server, Exit>
+    // Its one file is what a file gave that was opened, if that states which bytes it gives.
+    ensures { IfOk result (IsServerOfFile R.File.remaining 1 (codes "file")) }
+{
     let bytes = match read_file(rt, path) {
         Ok(bytes) => bytes,
         Err(error) => return Err(unread(rt, error, path)?),

@@ -1,5 +1,6 @@
 //! `cogserve` with files alone: what its words leave out has a default, and a file has its own name.
-ghost use Rattle.std.specs.Prelude.{◌≡◌, ◌++◌, ◌∷◌, [], IfErr, IfOk, IfSome, IsSomeAnd, None, Ok, OnErr, OnOk};
+ghost use Rattle.std.specs.Prelude.{◌≡◌, ◌++◌, ◌∷◌, ◌/◌, [], IfErr, IfOk, IfSome, IsSomeAnd, None, Ok, OnErr, OnOk, min};
+ghost use Rattle.std.specs.Duration.{as_nanos};
 ghost use Rattle.std.specs.Option.{option_copied};
 ghost use Rattle.command_lines.specs.NamedFiles.{HaveOwnNames};
 ghost use Rattle.programs.specs.NamedFiles.{AreWatched, IsWatched, NamesBoth, NamesTwo};
@@ -20,6 +21,7 @@ use std::alloc::{AllocError, Global};
 use std::io;
 use std::net::{Net, TcpListener, TcpStream};
 use std::rt::{Clock, Files};
+use std::time::Duration;
 
 /// Where the server listens, unless a word says it.
 const PLACE: &str = "127.0.0.1:8080";
@@ -53,7 +55,7 @@ where
     let place = line.listen.unwrap_or(PLACE);
     let listening = listen(&log, place);
     let listener = with_reason(&log, place, listening)?;
-    let mut server = Server::new(rt.alloc(), epoch_of(rt, given)?);
+    let mut server = Server::new(rt.alloc(), epoch_of(given, rt.since_1970())?);
     let served = serve(
         &mut log,
         &mut server,
@@ -167,17 +169,17 @@ fn given_epoch<R: AllocGlobal>(rt: &R, word: Option<&str>) -> Result<Option<u32>
     }
 }
 
-/// Returns the epoch that is given, or else the seconds since 1970. Fails with `NoClock` where the clock fails.
-fn epoch_of<R: Clock>(rt: &R, given: Option<u32>) -> Result<u32, Exit>
+/// Returns the epoch that is given, or else the whole seconds of `now`, the time since 1970. Fails with `NoClock` where that is needed and
+/// the clock failed.
+fn epoch_of(given: Option<u32>, now: io::Result<Duration>) -> Result<u32, Exit>
     ensures given { IfSome given (λ epoch. result ≡ Ok epoch) }
+    ensures seconds { given ≡ None → IfOk now (λ since. result ≡ Ok (min (as_nanos since / 1000000000) 4294967295)) }
     ensures err { IfErr result (λ fault. fault ≡ NoClock) }
 {
-    match given {
-        Some(epoch) => Ok(epoch),
-        None => match rt.since_1970() {
-            Ok(since) => Ok(u32::try_from(since.as_secs()).unwrap_or(u32::MAX)),
-            Err(_) => Err(Exit::NoClock),
-        },
+    match (given, now) {
+        (Some(epoch), _) => Ok(epoch),
+        (None, Ok(since)) => Ok(since.as_secs().min(u64::from(u32::MAX)) as u32),
+        (None, Err(_)) => Err(Exit::NoClock),
     }
 }
 

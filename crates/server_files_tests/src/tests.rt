@@ -4,3 +4,4 @@ mod large;
 mod lines;
 mod logs;
 mod sockets;
+mod stated;
