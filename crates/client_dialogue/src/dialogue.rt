@@ -1,7 +1,7 @@
 //! The exchanges of a client, one after another.
 ghost use Rattle.std.specs.Prelude.{◌≡◌, ◌<◌, ◌≤◌, [], false, true, IfOk, OnErr, OnOk, length, take};
 ghost use Rattle.client_connection.specs.Status.{after_open, after_write, is_again, over};
-ghost use Rattle.client_dialogue.specs.Goes.{Advances, BeginsAnew, Fails, GetsOthers, Goes, HasStatusOf, KeepsWaits, MakesNone, Says, TellsStatus, rounds_of};
+ghost use Rattle.client_dialogue.specs.Goes.{Advances, BeginsAnew, Fails, GetsOthers, Goes, HasStatusOf, KeepsUsed, KeepsWaits, MakesNone, Says, TellsStatus, rounds_of};
 ghost use Rattle.client_dialogue.specs.declared.step.Step.TheVariants.{More};
 
 mod answering;
@@ -164,6 +164,7 @@ impl Dialogue {
         ensures goes { IfOk result (λ progress.
             Goes (rounds_of progress.step) (take progress.count bytes.now) self.old client.old self.new client.new) }
         ensures says { IfOk result (λ progress. Says progress.step self.new client.new) }
+        ensures keeps { IfOk result (λ progress. KeepsUsed self.old.status progress.step self.new.status) }
         ensures waits { OnOk result (KeepsWaits self.old.status self.new.status) }
         ensures advances { IfOk result (λ progress. Advances self.old progress.count progress.step) }
         ensures status { 0 < length self.old.status.out

@@ -3,7 +3,7 @@ ghost use Rattle.std.specs.Prelude.{◌≡◌, ◌≢◌, ◌<◌, ◌≤◌, �
 ghost use Rattle.client_connection.specs.Status.{is_again};
 ghost use Rattle.client_dialogue.specs.Useful.{IsStatusOf};
 ghost use Rattle.client_dialogue.specs.declared.step.Step.TheVariants.{More};
-ghost use Rattle.client_dialogue.specs.Goes.{Fails, GetsOthers, Goes, HasStatusOf, IsUsed, KeepsWaits, Says, TellsStatus, rounds_of};
+ghost use Rattle.client_dialogue.specs.Goes.{Fails, GetsOthers, Goes, HasStatusOf, IsUsed, KeepsUsed, KeepsWaits, Says, TellsStatus, rounds_of};
 ghost use Rattle.client_dialogue.specs.Inside.{Concludes, Feeds, Halts, HasGoneOn, IsConcluded, IsFedBy, IsHaltedBy, given_up};
 
 use crate::dialogue::Dialogue;
@@ -16,7 +16,8 @@ use http_range::read_frame;
 
 /// Returns whether an answer was used: it brought blocks, or the client reads another revision from now on.
 fn is_used(delivered: Delivered) -> bool
-    ensures { result ≡ true → IsUsed delivered }
+    ensures yes { result ≡ true → IsUsed delivered }
+    ensures no { result ≡ false → ¬ IsUsed delivered }
 {
     match delivered {
         Delivered::Took(blocks) => blocks > 0,
@@ -217,6 +218,7 @@ impl Dialogue {
         ensures ends { IfOk result (λ step. step ≢ More) }
         ensures goes { IfOk result (λ step. Goes (rounds_of step) [] self.old client.old self.new client.new) }
         ensures says { IfOk result (λ step. Says step self.new client.new) }
+        ensures keeps { IfOk result (λ step. KeepsUsed self.old.status step self.new.status) }
         ensures waits { OnOk result (KeepsWaits self.old.status self.new.status) }
         ensures status { IfOk result (HasStatusOf self.old.status.head) }
         ensures err { OnErr result (Goes Fails [] self.old client.old self.new client.new) }
