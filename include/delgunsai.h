@@ -327,7 +327,8 @@ enum {
 
 /* A step. */
 struct delgunsai_step {
-    uint64_t taken;          /* how many of the bytes were taken, from the first on; the others are handed on with the next call */
+    uint64_t taken;          /* how many of the bytes were taken, from the first on; the others are handed on with the next call. None are
+                              * left at DELGUNSAI_CONNECT, DELGUNSAI_READ and DELGUNSAI_LOOK */
     uint32_t kind;           /* what to do next */
     struct cog_said said;    /* after an exchange, what the answer did, as cog_client_end writes it; after a check, what it says */
     uint32_t status;         /* after an exchange or a check, the status code of the answer; 0 where no whole head came */

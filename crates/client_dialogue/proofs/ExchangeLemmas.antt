@@ -17,13 +17,21 @@ use Rattle.cog_client.specs.FedClient.{AnswersBeginAnywhere, Fed}
 use Rattle.cog_client.specs.Keeps.{RequestsKeeping, StopsAsking}
 use Rattle.client_dialogue.specs.History.{AreOwn, Exchange, IsFresh, IsPlaced, IsRound, IsUnder, Round, Talk, begun, connections_of, fed_of, past_of}
 use Rattle.client_dialogue.specs.History.Round.{Made, Rested, Unasked}
-use Rattle.client_dialogue.specs.Goes.{BeginsAnew, Fails, Goes, MakesNone, MakesOne, Stays}
+use Rattle.client_dialogue.specs.Goes.{BeginsAnew, Fails, Goes, IsUsed, KeepsUsed, MakesNone, MakesOne, Stays}
 use Rattle.client_dialogue.specs.Inside.{Concludes, Halts, HasGoneOn, IsConcluded, IsFedBy, IsHaltedBy, given_up}
+use Rattle.client_dialogue.specs.declared.step.Exchanged.{Exchanged}
 use Rattle.client_dialogue.specs.declared.step.Step.{Step}
-use Rattle.client_dialogue.specs.declared.step.Step.TheVariants.{More}
+use Rattle.client_dialogue.specs.declared.step.Step.TheVariants.{Exchanged as AnExchange, More}
 use Rattle.client_dialogue.specs.Goes.{rounds_of}
 use Rattle.client_dialogue.proofs.EventLemmas.{can-end, own_next, run-end, same_came}
 use Rattle.client_dialogue.proofs.HistoryLemmas.{IsQuiet, IsTextOf, begun_goes, begun_on, body_goes, both_true, build, ended_adds, ends_goes, few_at, gone_adds, halted_goes, live_of, made_goes, next, none_goes, open_fresh, quiet_goes, then_let_go, under_false, under_true}
+
+abbrev exchanged_of : Exchanged → Step → Exchanged
+exchanged_of x (AnExchange e) = e
+exchanged_of x step = x
+
+exchange_of : (x e : Exchanged) → AnExchange x ≡ AnExchange e → x ≡ e
+exchange_of x e same = ap (exchanged_of x) same
 
 -- ---- queries
 
@@ -220,9 +228,22 @@ pub finish_goes : AnswersAreInOrder → (t : Talk) (c d : ClientState) (u : Talk
     → Concludes [] what c d → HasGoneOn what (record t { asked = false }) u → Goes (MakesOne what) [] t c u d
 finish_goes order t c d u what busy opens takes gone = elim gone [
   | inl went ↦ subst (λ (x : Talk). Goes (MakesOne what) [] t c x d) (sym went.1) (finished_goes order t c d what busy opens went.0 takes)
-  | inr ended ↦ subst (λ (x : Talk). Goes (MakesOne what) [] t c x d) (sym ended)
+  | inr ended ↦ subst (λ (x : Talk). Goes (MakesOne what) [] t c x d) (sym ended.0)
       (ended_goes order t c d what busy takes)
 ]
+
+-- after a whole answer that was used the connection stays
+pub used_stays : (t u : Talk) (what : Delivered) → t.status.is_open ≡ true → HasGoneOn what (record t { asked = false }) u
+    → t.status.left ≡ Some 0 → t.status.closes ≡ false → IsUsed what → u.status.is_open ≡ true
+used_stays t u what opens gone whole stays used = elim gone [
+  | inl went ↦ rw went.1 (rw stays opens)
+  | inr ended ↦ absurd (ended.1 (whole, used))
+]
+
+pub used_step : (t u : Talk) (x : Exchanged) → t.status.is_open ≡ true → HasGoneOn x.delivered (record t { asked = false }) u
+    → KeepsUsed t.status (AnExchange x) u.status
+used_step t u x opens gone = λ e same whole stays used.
+    used_stays t u x.delivered opens gone whole stays (subst (λ (y : Exchanged). IsUsed y.delivered) (sym (exchange_of x e same)) used)
 
 -- ---- a connection that is lost
 

@@ -1,5 +1,5 @@
 -- What a check does, and what it says.
-use Rattle.std.specs.Prelude.{◌≡◌, ◌<◌, ◌⊎◌, ℕ, false, true, List, [], ◌∷◌, length, Option, None, Some, IsSome}
+use Rattle.std.specs.Prelude.{◌≡◌, ⊤, ◌<◌, ◌⊎◌, ℕ, false, true, List, [], ◌∷◌, length, Option, None, Some, IsSome}
 use Rattle.client_connection.specs.Status.{Status, Takes, over}
 use Rattle.client_connection.specs.declared.parts.Part.{Part}
 use Rattle.cog_client.specs.Check.{IsCurrent}
@@ -16,6 +16,12 @@ IsCheckOf (Some text) check = check ≡ Some (over (text ∷ []))
 -- nothing more is awaited: the head is whole, or the connection is over
 abbrev pub IsAnswered : Status → Type 0
 IsAnswered s = (s.out ≡ []) ⊎ IsSome s.left
+
+-- For this step of a check the driver gets other bytes. It hands on none of these again.
+abbrev pub GetsOthersFor : CheckStep → Type 0
+GetsOthersFor Connect = ⊤
+GetsOthersFor Read = ⊤
+GetsOthersFor step = ⊥
 
 -- A step of a check. It says what is to be done next, and nothing changes. Or it takes bytes, which are dropped while there is no
 -- connection. The result of the check is what the head that came says.

@@ -77,6 +77,17 @@ IsUsed (Took blocks) = 0 < blocks
 IsUsed Restarted = ⊤
 IsUsed (Ignored why) = ⊥
 
+-- For this step the driver gets other bytes. It hands on none of these again.
+abbrev pub GetsOthers : Step → Type 0
+GetsOthers Connect = ⊤
+GetsOthers Look = ⊤
+GetsOthers Read = ⊤
+GetsOthers step = ⊥
+
+-- After a whole answer that was used the connection stays, unless it ends with this answer.
+abbrev pub KeepsUsed : Status → Step → Status → Type 0
+KeepsUsed s step t = (e : Exchanged) → step ≡ AnExchange e → s.left ≡ Some 0 → s.closes ≡ false → IsUsed e.delivered → t.is_open ≡ true
+
 -- what holds after each step that a driver is given; after an exchange there is a connection only if its answer was used
 abbrev pub Says : Step → Talk → ClientState → Type 0
 Says Connect t c = (t.asked ≡ true) × (t.status.is_open ≡ false)

@@ -29,10 +29,10 @@ Concludes bytes what c d = (s : ClientState) (p : List ℕ) → Fed s p c → De
 abbrev pub given_up : Talk → Talk
 given_up t = record t { status = over []; asked = false }
 
--- The connection went on after an answer that is whole and was used, or it was ended.
+-- The connection went on after an answer that is whole and was used. After any other it was ended.
 abbrev pub HasGoneOn : Delivered → Talk → Talk → Type 0
 HasGoneOn what t u = ((t.status.left ≡ Some 0) × (u ≡ record t { status = after_finish t.status }) × IsUsed what)
-    ⊎ (u ≡ record t { status = over [] })
+    ⊎ ((u ≡ record t { status = over [] }) × ¬ ((t.status.left ≡ Some 0) × IsUsed what))
 
 -- The exchange is over with what came of the head.
 abbrev pub IsConcluded : Step → Talk → ClientState → Talk → ClientState → Type 0

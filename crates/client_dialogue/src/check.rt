@@ -2,7 +2,7 @@
 ghost use Rattle.std.specs.Prelude.{◌≡◌, ◌≤◌, [], false, IfOk, OnErr, OnOk, length, take};
 ghost use Rattle.client_connection.specs.Status.{after_gone, after_open, after_write, over};
 ghost use Rattle.cog_client.specs.Check.{check_of};
-ghost use Rattle.client_dialogue.specs.Checking.{AdvancesCheck, ChecksBy, IsCheckOf};
+ghost use Rattle.client_dialogue.specs.Checking.{AdvancesCheck, ChecksBy, GetsOthersFor, IsCheckOf};
 ghost use Rattle.client_dialogue.specs.Useful.{IsStatusOf};
 
 use crate::dialogue::status_of;
@@ -112,7 +112,7 @@ impl Check {
     /// the check has a connection are of another one, and are dropped. Fails without memory: the check is over then.
     pub fn go_on(&mut self, client: &Client, bytes: &[u8]) -> Result<CheckProgress, Memory>
         ensures few { IfOk result (λ progress. progress.count ≤ length bytes.now) }
-        ensures drops { IfOk result (λ progress. progress.step ≡ CheckStep.Connect → progress.count ≡ length bytes.now) }
+        ensures drops { IfOk result (λ progress. GetsOthersFor progress.step → progress.count ≡ length bytes.now) }
         ensures does { IfOk result (λ progress. ChecksBy client.now progress.step (take progress.count bytes.now) self.old self.new) }
         ensures advances { IfOk result (λ progress. AdvancesCheck self.old progress.count progress.step) }
         ensures err { OnErr result (self.new ≡ over []) }

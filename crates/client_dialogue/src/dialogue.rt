@@ -1,8 +1,8 @@
 //! The exchanges of a client, one after another.
 ghost use Rattle.std.specs.Prelude.{◌≡◌, ◌<◌, ◌≤◌, [], false, true, IfOk, OnErr, OnOk, length, take};
 ghost use Rattle.client_connection.specs.Status.{after_open, after_write, is_again, over};
-ghost use Rattle.client_dialogue.specs.Goes.{Advances, BeginsAnew, Fails, Goes, HasStatusOf, KeepsWaits, MakesNone, Says, TellsStatus, rounds_of};
-ghost use Rattle.client_dialogue.specs.declared.step.Step.TheVariants.{Connect, More};
+ghost use Rattle.client_dialogue.specs.Goes.{Advances, BeginsAnew, Fails, GetsOthers, Goes, HasStatusOf, KeepsUsed, KeepsWaits, MakesNone, Says, TellsStatus, rounds_of};
+ghost use Rattle.client_dialogue.specs.declared.step.Step.TheVariants.{More};
 
 mod answering;
 mod asking;
@@ -160,10 +160,11 @@ impl Dialogue {
     /// Fails without memory. The history goes on then by at most one round in which memory ran out. What of its answer was taken stays.
     pub fn go_on(&mut self, client: &mut Client, bytes: &[u8]) -> Result<Progress, Memory>
         ensures few { IfOk result (λ progress. progress.count ≤ length bytes.now) }
-        ensures drops { IfOk result (λ progress. progress.step ≡ Connect → progress.count ≡ length bytes.now) }
+        ensures drops { IfOk result (λ progress. GetsOthers progress.step → progress.count ≡ length bytes.now) }
         ensures goes { IfOk result (λ progress.
             Goes (rounds_of progress.step) (take progress.count bytes.now) self.old client.old self.new client.new) }
         ensures says { IfOk result (λ progress. Says progress.step self.new client.new) }
+        ensures keeps { IfOk result (λ progress. KeepsUsed self.old.status progress.step self.new.status) }
         ensures waits { OnOk result (KeepsWaits self.old.status self.new.status) }
         ensures advances { IfOk result (λ progress. Advances self.old progress.count progress.step) }
         ensures status { 0 < length self.old.status.out

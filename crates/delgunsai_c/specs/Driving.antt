@@ -1,8 +1,8 @@
 -- What a driver's call from C does to what its handle holds, and which numbers it returns.
 use Rattle.std.specs.Prelude.{◌≡◌, ◌⊎◌, ◌<◌, ◌≤◌, ℕ, ℤ, pos, Bool, if◌then◌else◌, List, [], length, take, Option, None, Some, Result, Ok, Err}
 use Rattle.client_connection.specs.Status.{Status}
-use Rattle.client_dialogue.specs.Checking.{AdvancesCheck, ChecksBy}
-use Rattle.client_dialogue.specs.Goes.{Advances, Fails, Goes, KeepsWaits, Says, TellsStatus, rounds_of}
+use Rattle.client_dialogue.specs.Checking.{AdvancesCheck, ChecksBy, GetsOthersFor}
+use Rattle.client_dialogue.specs.Goes.{Advances, Fails, GetsOthers, Goes, KeepsUsed, KeepsWaits, Says, TellsStatus, rounds_of}
 use Rattle.client_dialogue.specs.Useful.{IsStatusOf}
 use Rattle.client_dialogue.specs.declared.check.CheckStep.{CheckStep}
 use Rattle.client_dialogue.specs.declared.check.CheckStep.TheVariants as check
@@ -52,12 +52,13 @@ Drives does old new told = ((h : Held) × (k : Held) × (old ≡ Some h) × (new
 abbrev pub KeepsRest : Option Held → Option Held → ℤ → Type 0
 KeepsRest old new told = Drives (λ h k. k ≡ record h { client = k.client }) old new told
 
--- The exchanges went on so, and no check is under way. If a connection is to be made, all bytes are taken: they are of another one.
+-- The exchanges went on so, and no check is under way. Where the driver gets other bytes next, all bytes are taken.
 pub record GoesOn (bytes : List ℕ) (n : ℕ) (step : Step) (h k : Held) : Type 0 where
   pub few : n ≤ length bytes
-  pub drops : step ≡ Connect → n ≡ length bytes
+  pub drops : GetsOthers step → n ≡ length bytes
   pub goes : Goes (rounds_of step) (take n bytes) h.dialogue h.client k.dialogue k.client
   pub says : Says step k.dialogue k.client
+  pub keeps : KeepsUsed h.dialogue.status step k.dialogue.status
   pub advances : Advances h.dialogue n step
   pub status : 0 < length h.dialogue.status.out → TellsStatus h.dialogue.status.head (take n bytes) step
   pub waits : KeepsWaits h.dialogue.status k.dialogue.status
@@ -69,10 +70,10 @@ abbrev pub check_after : CheckStep → Status → Option Status
 check_after (check.Checked current) s = None
 check_after step s = Some s
 
--- The check went on so, and this is the status code of its answer so far. Nothing else changes. If a connection is to be made, all bytes
--- are taken.
+-- The check went on so, and this is the status code of its answer so far. Nothing else changes. Where the driver gets other bytes
+-- next, all bytes are taken.
 abbrev pub ChecksOn : (bytes : List ℕ) (n : ℕ) (step : CheckStep) (status : ℕ) → Status → Held → Held → Type 0
-ChecksOn bytes n step status s h k = (n ≤ length bytes) × (step ≡ check.Connect → n ≡ length bytes) × AdvancesCheck s n step
+ChecksOn bytes n step status s h k = (n ≤ length bytes) × (GetsOthersFor step → n ≡ length bytes) × AdvancesCheck s n step
     × ((new : Status) × ChecksBy h.client step (take n bytes) s new × IsStatusOf new.head status × (k ≡ record h { check = check_after step new }))
 
 abbrev pub DrivesBy : Option Status → List ℕ → NextStep → Held → Held → Type 0

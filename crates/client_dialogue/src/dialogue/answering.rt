@@ -2,8 +2,8 @@
 ghost use Rattle.std.specs.Prelude.{◌≡◌, ◌≢◌, ◌<◌, ◌≤◌, ◌⊎◌, [], false, true, Some, IfOk, IsSome, OnErr, OnOk, length, take};
 ghost use Rattle.client_connection.specs.Status.{is_again};
 ghost use Rattle.client_dialogue.specs.Useful.{IsStatusOf};
-ghost use Rattle.client_dialogue.specs.declared.step.Step.TheVariants.{Connect, More};
-ghost use Rattle.client_dialogue.specs.Goes.{Fails, Goes, HasStatusOf, IsUsed, KeepsWaits, Says, TellsStatus, rounds_of};
+ghost use Rattle.client_dialogue.specs.declared.step.Step.TheVariants.{More};
+ghost use Rattle.client_dialogue.specs.Goes.{Fails, GetsOthers, Goes, HasStatusOf, IsUsed, KeepsUsed, KeepsWaits, Says, TellsStatus, rounds_of};
 ghost use Rattle.client_dialogue.specs.Inside.{Concludes, Feeds, Halts, HasGoneOn, IsConcluded, IsFedBy, IsHaltedBy, given_up};
 
 use crate::dialogue::Dialogue;
@@ -16,7 +16,8 @@ use http_range::read_frame;
 
 /// Returns whether an answer was used: it brought blocks, or the client reads another revision from now on.
 fn is_used(delivered: Delivered) -> bool
-    ensures { result ≡ true → IsUsed delivered }
+    ensures yes { result ≡ true → IsUsed delivered }
+    ensures no { result ≡ false → ¬ IsUsed delivered }
 {
     match delivered {
         Delivered::Took(blocks) => blocks > 0,
@@ -41,7 +42,7 @@ impl Dialogue {
         requires busy { self.old.asked ≡ true }
         requires opens { self.old.status.is_open ≡ true }
         ensures few { IfOk result (λ progress. progress.count ≤ length bytes.now) }
-        ensures drops { IfOk result (λ progress. progress.step ≡ Connect → progress.count ≡ length bytes.now) }
+        ensures drops { IfOk result (λ progress. GetsOthers progress.step → progress.count ≡ length bytes.now) }
         ensures goes { IfOk result (λ progress.
             Goes (rounds_of progress.step) (take progress.count bytes.now) self.old client.old self.new client.new) }
         ensures says { IfOk result (λ progress. Says progress.step self.new client.new) }
@@ -71,7 +72,7 @@ impl Dialogue {
         requires more { ¬ (self.old.status.left ≡ Some 0) }
         requires some { 0 < length bytes.now }
         ensures few { IfOk result (λ progress. progress.count ≤ length bytes.now) }
-        ensures other { IfOk result (λ progress. progress.step ≢ Connect) }
+        ensures other { IfOk result (λ progress. ¬ GetsOthers progress.step) }
         ensures goes { IfOk result (λ progress.
             Goes (rounds_of progress.step) (take progress.count bytes.now) self.old client.old self.new client.new) }
         ensures says { IfOk result (λ progress. Says progress.step self.new client.new) }
@@ -96,7 +97,7 @@ impl Dialogue {
 
     /// Feeds what the bytes are that the connection took.
     fn feed_part(&mut self, client: &mut Client, part: Part, bytes: &[u8]) -> Result<Step, Memory>
-        ensures other { IfOk result (λ step. step ≢ Connect) }
+        ensures other { IfOk result (λ step. ¬ GetsOthers step) }
         ensures status { IfOk result (HasStatusOf self.old.status.head) }
         ensures ok { IfOk result (λ step. IsFedBy part bytes.now step self.old client.old self.new client.new) }
         ensures err { OnErr result (IsHaltedBy part bytes.now self.old client.old self.new client.new) }
@@ -177,7 +178,7 @@ impl Dialogue {
 
     /// Ends the exchange, whose connection is over, with what came of the head.
     fn conclude_head(&mut self, client: &mut Client) -> Result<Step, Memory>
-        ensures other { IfOk result (λ step. step ≢ Connect) }
+        ensures other { IfOk result (λ step. ¬ GetsOthers step) }
         ensures ends { IfOk result (λ step. step ≢ More) }
         ensures status { IfOk result (HasStatusOf self.old.status.head) }
         ensures ok { IfOk result (λ step. IsConcluded step self.old client.old self.new client.new) }
@@ -213,10 +214,11 @@ impl Dialogue {
         requires busy { self.old.asked ≡ true }
         requires opens { self.old.status.is_open ≡ true }
         requires begun { IsSome self.old.status.left }
-        ensures other { IfOk result (λ step. step ≢ Connect) }
+        ensures other { IfOk result (λ step. ¬ GetsOthers step) }
         ensures ends { IfOk result (λ step. step ≢ More) }
         ensures goes { IfOk result (λ step. Goes (rounds_of step) [] self.old client.old self.new client.new) }
         ensures says { IfOk result (λ step. Says step self.new client.new) }
+        ensures keeps { IfOk result (λ step. KeepsUsed self.old.status step self.new.status) }
         ensures waits { OnOk result (KeepsWaits self.old.status self.new.status) }
         ensures status { IfOk result (HasStatusOf self.old.status.head) }
         ensures err { OnErr result (Goes Fails [] self.old client.old self.new client.new) }

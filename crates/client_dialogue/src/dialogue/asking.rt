@@ -1,10 +1,10 @@
 //! Requests are sent.
-ghost use Rattle.std.specs.Prelude.{◌≡◌, ◌≢◌, ◌-◌, ◌<◌, ◌⊎◌, [], false, true, Some, IfOk, OnErr, OnOk};
+ghost use Rattle.std.specs.Prelude.{◌≡◌, ◌-◌, ◌<◌, ◌⊎◌, [], false, true, Some, IfOk, OnErr, OnOk};
 ghost use Rattle.client_connection.specs.Status.{after_ask, over};
 ghost use Rattle.cog_client.specs.Client.{ClientState};
 ghost use Rattle.cog_client.specs.Keeps.{RequestsKeeping};
-ghost use Rattle.client_dialogue.specs.declared.step.Step.TheVariants.{Connect, More};
-ghost use Rattle.client_dialogue.specs.Goes.{Fails, Goes, IsEarlyFor, KeepsWaits, Says, Stays, rounds_of};
+ghost use Rattle.client_dialogue.specs.declared.step.Step.TheVariants.{More};
+ghost use Rattle.client_dialogue.specs.Goes.{Fails, GetsOthers, Goes, IsEarlyFor, KeepsWaits, Says, Stays, rounds_of};
 
 use crate::dialogue::Dialogue;
 use crate::step::Step;
@@ -16,7 +16,7 @@ impl Dialogue {
     /// Asks the client for its next request.
     pub(super) fn ask(&mut self, client: &mut Client) -> Result<Step, Memory>
         requires { self.old.asked ≡ false }
-        ensures other { IfOk result (λ step. step ≢ Connect) }
+        ensures other { IfOk result (λ step. ¬ GetsOthers step) }
         ensures which { IfOk result (λ step. (step ≡ More) ⊎ (step ≡ Step.Over)) }
         ensures goes { IfOk result (λ step. Goes (rounds_of step) [] self.old client.old self.new client.new) }
         ensures says { IfOk result (λ step. Says step self.new client.new) }

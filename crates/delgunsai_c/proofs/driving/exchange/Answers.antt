@@ -18,6 +18,7 @@ returns-clause-ok c =
         drops = made.drops;
         goes = made.goes;
         says = made.says;
+        keeps = made.keeps;
         advances = made.advances;
         status = made.status;
         waits = made.waits;
