@@ -77,6 +77,13 @@ NobodyYields now s = (slot_count s ≡ 1) ⊎ Yields now (limits_of s).patience 
 abbrev pub HasNoSlot : ℕ → Serving → Type 0
 HasNoSlot now s = (slot_count s ≤ length (slots_of s)) × NobodyYields now s
 
+-- No other connection is accepted at this moment, for one of these reasons. None is known to wait, all were accepted, there is no slot, the
+-- system had no room, or it barred one.
+abbrev pub AcceptsNoMore : ℕ → Serving → Type 0
+AcceptsNoMore now s =
+    (s.accept_pending ≡ false) ⊎ (((limits_of s).connections ≤ accepted_of s)
+    ⊎ (HasNoSlot now s ⊎ ((s.out_of_descriptors ≡ true) ⊎ (s.is_barred ≡ true))))
+
 -- No connection may go on, and none drains. There is no new connection that lacked room, or that wasn't let in.
 abbrev pub Rests : Serving → Type 0
 Rests s = (s.ready.items ≡ []) × (s.drains.items ≡ []) × (s.out_of_descriptors ≡ false) × (s.is_barred ≡ false)

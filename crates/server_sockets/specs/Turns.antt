@@ -1,6 +1,8 @@
 -- What a connection's turn does, and when it comes to an end.
 use Rattle.std.specs.Prelude.{◌≡◌, ◌≢◌, ◌⊎◌, ℕ, [], nat_eq, IfSome, IsSomeAnd, IsTrue, Option, None, Some, is_some}
 use Rattle.std.specs.HashMap.{HashMap, get}
+use Rattle.std.specs.declared.io.ErrorKind.{ErrorKind}
+use Rattle.std.specs.declared.io.ErrorKind.TheVariants.{Interrupted, WouldBlock}
 use Rattle.std.specs.Map.{remove_entry}
 use Rattle.http_range.specs.Stream.{IsUnfinished}
 use Rattle.cog_server.specs.Status.{EndsBy, is_drained, start}
@@ -9,6 +11,8 @@ use Rattle.server_connections.specs.declared.table.Connections.{Connections}
 use Rattle.server_connections.specs.declared.timed.Timed.{Timed}
 use Rattle.server_connections.specs.Table.{Table, OthersStay, timed_at}
 use Rattle.server_connections.specs.Yielding.{IsUntried, Yields}
+use Rattle.server_sockets.specs.declared.turn.Turn.{Turn}
+use Rattle.server_sockets.specs.declared.turn.Turn.TheVariants.{Failed}
 
 -- Each connection except `k` is as it was, and `k` has its slot or none as before. The number of slots and the next number stay.
 pub record KeepsSlots (k : ℕ) (old new : Connections) : Type 0 where
@@ -45,6 +49,18 @@ IsAtRest now p =
 -- there is a connection `k`, and it is at rest
 abbrev pub RestsAt : ℕ → ℕ → Table → Type 0
 RestsAt now k table = IsSomeAnd (timed_at k table) (IsAtRest now)
+
+-- an error of this kind doesn't say that the socket would block, nor that a signal came
+abbrev pub IsFailure : ErrorKind → Type 0
+IsFailure kind = (kind ≢ WouldBlock) × (kind ≢ Interrupted)
+
+-- the turn failed
+abbrev pub HasFailed : Turn → Type 0
+HasFailed turn = (kind : ErrorKind) × (turn ≡ Failed kind)
+
+-- if the turn failed, it was by such an error
+abbrev pub FailsRightly : Turn → Type 0
+FailsRightly turn = (kind : ErrorKind) → turn ≡ Failed kind → IsFailure kind
 
 -- Of the sockets that are to be tried at this moment, one was tried the longest ago. It is tried, or its connection has lost its slot.
 abbrev pub TriesOne : ℕ → ℕ → Table → Table → Type 0

@@ -1,7 +1,7 @@
 //! Bytes between a connection and its socket.
-ghost use Rattle.std.specs.Prelude.{◌≡◌, ◌++◌, ◌<◌, ◌≤◌, IfErr, IfOk, IfSome, OnErr, length, take};
+ghost use Rattle.std.specs.Prelude.{◌≡◌, ◌++◌, ◌<◌, ◌≤◌, ◌⊎◌, IfErr, IfOk, IfSome, OnErr, length, take};
 ghost use Rattle.std.specs.Io.{WritesAtMost};
-ghost use Rattle.std.specs.Io.KnownBytes.{WriteAppends};
+ghost use Rattle.std.specs.Io.KnownBytes.{Consumes, IsAtEnd, WriteAppends};
 ghost use Rattle.std.specs.Io.Slices.{io_slices_bytes};
 ghost use Rattle.std.specs.IoError.{error_kind};
 ghost use Rattle.std.specs.declared.io.ErrorKind.TheVariants.{OutOfMemory};
@@ -75,6 +75,7 @@ pub fn write_some(
     most: usize,
     now: u64,
 ) -> io::Result<usize>
+    requires { 0 < most }
     ensures few { IfOk result (λ n. n ≤ most) }
     ensures waits { IfOk result (λ n. IfSome (timed_at socket.now.number connections.old.table.entries)
         (λ p. n ≤ length p.connection.waiting)) }
@@ -95,6 +96,7 @@ fn write_to<W: WriteSlices>(
     most: usize,
     now: u64,
 ) -> io::Result<usize>
+    requires { 0 < most }
     ensures few { IfOk result (λ n. n ≤ most) }
     ensures waits { IfOk result (λ n. IfSome (timed_at number connections.old.table.entries)
         (λ p. n ≤ length p.connection.waiting)) }
@@ -144,13 +146,35 @@ pub fn read_some(
     ensures err { OnErr result (Changes socket.now.number (λ p. p) connections.old.table.entries connections.new.table.entries) }
     ensures kept { KeepsSlots socket.now.number connections.old connections.new }
 {
-    let number = socket.number;
-    let mut stream = &socket.stream;
+    read_from(connections, socket.number, &mut &socket.stream, buffer)
+}
+
+/// Reads from `reader`, which is the socket of connection `number`, as `read_some` does.
+fn read_from<R: Read>(
+    connections: &mut Connections,
+    number: u64,
+    reader: &mut R,
+    buffer: &mut [u8],
+) -> io::Result<usize>
+    requires { 0 < length buffer.old }
+    ensures within { IfOk result (λ n. n ≤ length buffer.new) }
+    ensures room { IfOk result (λ n. IfSome (timed_at number connections.old.table.entries)
+        (λ p. n ≤ room_of p.connection)) }
+    ensures came { IfOk result (λ n. Changes number
+        (λ p. record p { connection = after_read (take n buffer.new) p.connection })
+        connections.old.table.entries connections.new.table.entries) }
+    ensures err { OnErr result (Changes number (λ p. p) connections.old.table.entries connections.new.table.entries) }
+    // What is taken is the front of what comes, byte by byte. Nothing is taken only where there is no room, or at the end.
+    ensures order { IfOk result (λ n. Consumes (R.remaining reader.old) (R.remaining reader.new) (take n buffer.new)) }
+    ensures some { IfOk result (λ n. n ≡ 0
+        → IfSome (timed_at number connections.old.table.entries) (λ p. room_of p.connection ≡ 0) ⊎ IsAtEnd (R.remaining reader.new)) }
+    ensures kept { KeepsSlots number connections.old connections.new }
+{
     let Some(timed) = connections.get(number) else {
         return Ok(0);
     };
     let room = timed.connection.room().min(buffer.len());
-    let n = stream.read(&mut buffer[..room])?;
+    let n = reader.read(&mut buffer[..room])?;
     if n == 0 {
         connections.came_to_end(number);
     } else {

@@ -4,11 +4,11 @@ ghost use Rattle.std.specs.Map.{remove_entry};
 ghost use Rattle.std.specs.NonZero.{non_zero_usize_get};
 ghost use Rattle.cog_server.specs.Additions.{ServiceState};
 ghost use Rattle.cog_server.specs.Service.{service_of};
-ghost use Rattle.server_connections.specs.Table.{OthersStay, timed_at};
+ghost use Rattle.server_connections.specs.Table.{Changes, OthersStay, timed_after_write, timed_at};
 ghost use Rattle.server_connections.specs.declared.timed.Timed.{Timed};
 ghost use Rattle.server_connections.specs.Yielding.{FreesAt, IsFirstOverdue, IsUntried, MayYield, TriesAt, WakesAt, Yields, is_overdue};
 ghost use Rattle.server_sockets.specs.Going.{AllWentOn};
-ghost use Rattle.server_sockets.specs.Turns.{HasEndedAt, HasStartedAt, HaveSockets, IsDrainedAt, IsOpenAt, IsTriedAt, KeepsSlots, RestsAt};
+ghost use Rattle.server_sockets.specs.Turns.{FailsRightly, HasEndedAt, HasFailed, HasStartedAt, HaveSockets, IsDrainedAt, IsOpenAt, IsTriedAt, KeepsSlots, RestsAt};
 ghost use Rattle.server_sockets.specs.declared.turn.Turn.TheVariants.{Ended, GoesOn, Waits};
 
 use crate::answer_log::{AnswerLog, ConnectionLog, UnansweredInput};
@@ -296,6 +296,10 @@ impl OpenConnections {
         ensures tried { IsTriedAt now number self.new.connections.table.entries }
         ensures counted { self.new.ended ≡ self.old.ended }
         ensures ended { result ≡ Ended → HasEndedAt number self.new.connections.table.entries }
+        // One whose socket took bytes neither waits nor fails.
+        ensures blocked { (result ≡ Waits) ⊎ HasFailed result
+            → Changes number (timed_after_write 0 now) self.old.connections.table.entries self.new.connections.table.entries }
+        ensures failed { FailsRightly result }
     {
         match self.peers.get(&number) {
             Some(peer) => try_turn(&mut self.connections, &peer.socket, now),
@@ -329,6 +333,8 @@ impl OpenConnections {
         ensures rests { result ≡ Waits → RestsAt now number self.new.connections.table.entries
             ⊎ ((DrainsAt number self.old × ¬ IsDrainedAt number self.new.connections.table.entries)
             ⊎ (timed_at number self.new.connections.table.entries ≡ None)) }
+        // One fails only by an error of another kind than that its socket would block, or that a signal came.
+        ensures failed { FailsRightly result }
         ensures drains { DrainsAt number self.old → DrainsAt number self.new }
         ensures counted { self.new.ended ≡ self.old.ended }
         ensures taken { ¬ IsReadyAt number self.new }

@@ -1,7 +1,8 @@
 //! The sockets of a server: which connection gets a slot, which one is served next, and how long to wait.
-ghost use Rattle.std.specs.Prelude.{◌≡◌, ◌≢◌, ◌+◌, ◌-◌, ◌<◌, ◌≤◌, ◌^◌, ◌⊎◌, ◌↔◌, ◌++◌, ◌∷◌, [], IfErr, IfOk, IfSome, IsOk, IsTrue, None, Ok, OnErr, OnOk, Some, false, length, slice_get, true};
+ghost use Rattle.std.specs.Prelude.{◌≡◌, ◌≢◌, ◌+◌, ◌-◌, ◌*◌, ◌<◌, ◌≤◌, ◌^◌, ◌⊎◌, ◌↔◌, ◌++◌, ◌∷◌, [], IfErr, IfOk, IfSome, IsOk, IsTrue, None, Ok, OnErr, OnOk, Some, false, length, slice_get, true};
 ghost use Rattle.std.specs.IoError.{error_kind};
 ghost use Rattle.std.specs.NonZero.{non_zero_usize_get};
+ghost use Rattle.std.specs.declared.io.ErrorKind.{ErrorKind};
 ghost use Rattle.std.specs.declared.io.ErrorKind.TheVariants.{WouldBlock};
 ghost use Rattle.cog_server.specs.Service.{service_of};
 ghost use Rattle.server_connections.specs.Table.{OthersStay, Table, timed_at};
@@ -10,7 +11,7 @@ ghost use Rattle.mio.specs.Events.{capacity};
 ghost use Rattle.server_sockets.specs.Draining.{IsReadyAt, drain_of};
 ghost use Rattle.server_sockets.specs.Going.{AllWentOn};
 ghost use Rattle.server_sockets.specs.Refusals.{HasNoRoom, IsBarred, IsLasting, IsOfAsking, IsPassing};
-ghost use Rattle.server_sockets.specs.Turns.{GivesSlot, HasStartedAt, TriesOne};
+ghost use Rattle.server_sockets.specs.Turns.{FailsRightly, GivesSlot, HasStartedAt, TriesOne};
 ghost use Rattle.server_sockets.specs.declared.refusal.AcceptError.TheVariants.{Accept};
 ghost use Rattle.server_sockets.specs.declared.turn.Turn.TheVariants.{Ended, Failed, GoesOn, Waits};
 
@@ -20,7 +21,7 @@ mod trying;
 mod waiting;
 
 use crate::answer_log::AnswerLog;
-use crate::drain::{DRAIN, Drain};
+use crate::drain::Drain;
 use crate::events::LISTENER;
 use crate::open_connections::OpenConnections;
 use crate::refusal::{AcceptError, Refusal, refusal_of};
@@ -78,7 +79,7 @@ pub struct Serving {
 
 impl Serving {
     ghost use Rattle.server_sockets.specs.Closings.{BeginsWith, ClosesOnly, DrainsOnly};
-    ghost use Rattle.server_sockets.specs.Slots.{AllStart, HasNoSlot, IsServedAt, KeepsAll, KeepsBacklog, KeepsBusy, KeepsFreeing, KeepsTurns, MayKeepOld, NoneChanges, NobodyComes, NobodyYields, Rests, StayOrStart, accepted_of, drains_of, ended_of, frees_of, limits_of, next_of, publications_of, ready_of, slots_of, slot_count};
+    ghost use Rattle.server_sockets.specs.Slots.{AcceptsNoMore, AllStart, HasNoSlot, IsServedAt, KeepsAll, KeepsBacklog, KeepsBusy, KeepsFreeing, KeepsTurns, MayKeepOld, NoneChanges, NobodyComes, NobodyYields, Rests, StayOrStart, accepted_of, drains_of, ended_of, frees_of, limits_of, next_of, publications_of, ready_of, slots_of, slot_count};
 
     /// Starts to listen with `listener`, without a connection.
     pub fn new<R: Net + AllocGlobal>(
@@ -189,6 +190,10 @@ impl Serving {
         ensures tried { self.old.accept_pending ≡ true → accepted_of self.old < (limits_of self.old).connections → (turned : Table)
             × AllWentOn (service_of service.now) now (slots_of self.old) turned
             × TriesOne now (limits_of self.old).patience turned (slots_of self.new) }
+        // So it is where a connection may keep bytes of a replaced file.
+        ensures tried_old { MayKeepOld service.now.server.now.count self.old → (turned : Table)
+            × AllWentOn (service_of service.now) now (slots_of self.old) turned
+            × TriesOne now (limits_of self.old).patience turned (slots_of self.new) }
         // No connection is left that keeps bytes of a replaced file, has made no progress for the patience, and whose socket was tried at
         // this moment and took none.
         ensures freed { MayKeepOld service.now.server.now.count self.old
@@ -251,6 +256,10 @@ impl Serving {
         ensures due { KeepsTurns self.old self.new }
         ensures asks { IfOk result (λ again. again ≡ true → self.old.out_of_descriptors ≡ false
             → slot_count self.new ≤ length (slots_of self.new) → self.new.accept_pending ≡ false) }
+        // Where no other one is to be tried, there is a reason. Else one was accepted, or a slot was freed for one.
+        ensures heard { IfOk result (λ again. again ≡ false → AcceptsNoMore now self.new) }
+        ensures tries { IfOk result (λ again. again ≡ true → length (slots_of self.new)
+            < length (slots_of self.old) + 2 * (accepted_of self.new - accepted_of self.old)) }
     {
         if !self.is_awaited() || !self.has_slot(now) {
             return Ok(false);
@@ -369,6 +378,7 @@ impl Serving {
         ensures first { IfOk result (λ again. again ≡ true → self.old.out_of_descriptors ≡ true) }
         ensures same { NoneChanges self.old self.new }
         ensures fewer { length (slots_of self.new) ≤ length (slots_of self.old) }
+        ensures taken { IfOk result (λ again. again ≡ true → length (slots_of self.new) + 1 ≡ length (slots_of self.old)) }
         ensures passing { OnOk result (IsPassing error) }
         // Where none waits, none is noted as waiting, as lacking room, or as barred.
         ensures none_waits { error_kind error ≡ WouldBlock → (result ≡ Ok false)
@@ -437,6 +447,8 @@ impl Serving {
     /// Does at moment `now` what the outcome `turn` of a connection's turn asks for. Queues the connection again, starts its drain once all
     /// answers are written, or closes it. Where memory is short, the caller closes it.
     fn after(&mut self, number: u64, turn: Turn, now: u64) -> Result<(), Memory>
+        // No connection is closed because its socket would block, or because a signal came.
+        requires { FailsRightly turn }
         ensures others { OthersStay number (slots_of self.old) (slots_of self.new) }
         ensures nobody { NobodyComes self.old self.new }
         ensures same { NoneChanges self.old self.new }
@@ -447,7 +459,7 @@ impl Serving {
             ⊎ (timed_at number (slots_of self.new) ≡ None)) }
         ensures drains { turn ≡ Ended → OnOk result ((self.new.drains.items ≡ self.old.drains.items ++ drain_of now number ∷ [])
             ⊎ (timed_at number (slots_of self.new) ≡ None)) }
-        ensures failed { turn ≡ Failed → timed_at number (slots_of self.new) ≡ None }
+        ensures failed { (kind : ErrorKind) → turn ≡ Failed kind → timed_at number (slots_of self.new) ≡ None }
         ensures queue { BeginsWith (ready_of self.new) (ready_of self.old) }
         ensures drains_only { DrainsOnly (λ k. k ≡ number) (drains_of self.old) (drains_of self.new) }
         ensures backlog { KeepsBacklog self.old self.new }
@@ -457,15 +469,10 @@ impl Serving {
             Turn::Waits => {}
             Turn::GoesOn => self.make_ready(number)?,
             Turn::Ended => {
-                let ends = now.saturating_add(DRAIN);
-                if self.open_connections.drain(number) {
-                    self.drains.push_back(Drain { ends, number })?;
-                    self.make_ready(number)?;
-                } else {
-                    self.open_connections.close(number);
-                }
+                let is_shut = self.open_connections.drain(number);
+                self.start_drain(number, is_shut, now)?;
             }
-            Turn::Failed => self.open_connections.close(number),
+            Turn::Failed(_) => self.open_connections.close(number),
         }
         Ok(())
     }

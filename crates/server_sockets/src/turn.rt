@@ -1,13 +1,13 @@
 //! A connection's turn. It is served until its socket would block, and no longer than is fair to others.
-ghost use Rattle.std.specs.Prelude.{◌≡◌, ◌≢◌, ◌<◌, ◌↔◌, ℕ, false, length, IfErr, IfOk, IsSome, IsSomeAnd, IsTrue, None, Some};
+ghost use Rattle.std.specs.Prelude.{◌≡◌, ◌≢◌, ◌<◌, ◌⊎◌, ◌↔◌, ℕ, false, length, IfErr, IfOk, IsSome, IsSomeAnd, IsTrue, None, Some};
 ghost use Rattle.std.specs.IoError.{error_kind};
 ghost use Rattle.cog_server.specs.Service.{service_of};
-ghost use Rattle.server_connections.specs.Table.{timed_at};
+ghost use Rattle.server_connections.specs.Table.{Changes, timed_after_write, timed_at};
 ghost use Rattle.cog_server.specs.Additions.{ServiceState};
 ghost use Rattle.std.specs.declared.io.ErrorKind.TheVariants.{Interrupted, OutOfMemory, WouldBlock};
 ghost use Rattle.server_sockets.specs.Going.{AllWentOn};
-ghost use Rattle.server_sockets.specs.Turns.{HasEndedAt, IsDrainedAt, IsOpenAt, IsTriedAt, KeepsSlots, RestsAt};
-ghost use Rattle.server_sockets.specs.declared.turn.Turn.TheVariants.{Ended, GoesOn, Waits};
+ghost use Rattle.server_sockets.specs.Turns.{FailsRightly, HasEndedAt, HasFailed, IsDrainedAt, IsFailure, IsOpenAt, IsTriedAt, KeepsSlots, RestsAt};
+ghost use Rattle.server_sockets.specs.declared.turn.Turn.TheVariants.{Ended, Failed, GoesOn, Waits};
 
 use crate::answer_log::{AnswerLog, ConnectionLog};
 use crate::connection_socket::{ConnectionSocket, answer, read_some, write_some};
@@ -31,8 +31,8 @@ pub enum Turn {
     GoesOn,
     /// All answers are written, or all bytes after the last message were dropped.
     Ended,
-    /// The socket failed, or memory was short.
-    Failed,
+    /// The socket failed, or memory was short: with the kind of the error.
+    Failed(ErrorKind),
 }
 
 /// Returns whether bytes wait to be written on connection `number`.
@@ -73,11 +73,12 @@ fn turn_of(error: &io::Error) -> Option<Turn>
     ensures waits { result ≡ Some Waits ↔ (error_kind error.now ≡ WouldBlock) }
     ensures goes_on { result ≢ Some GoesOn }
     ensures ended { result ≢ Some Ended }
+    ensures failed { (kind : ErrorKind) → result ≡ Some (Failed kind) → (kind ≡ error_kind error.now) × IsFailure kind }
 {
     match error.kind() {
         ErrorKind::Interrupted => None,
         ErrorKind::WouldBlock => Some(Turn::Waits),
-        _ => Some(Turn::Failed),
+        kind => Some(Turn::Failed(kind)),
     }
 }
 
@@ -99,7 +100,8 @@ fn step<A: AnswerLog>(
     bounds: Bounds,
     log: &mut ConnectionLog<'_, A>,
 ) -> io::Result<Option<usize>>
-    requires { 0 < length buffer.old }
+    requires room { 0 < length buffer.old }
+    requires some { 0 < bounds.most }
     ensures kept { KeepsSlots socket.now.number connections.old connections.new }
     ensures went { AllWentOn (service_of service.now) bounds.now connections.old.table.entries connections.new.table.entries }
     ensures ended { IfOk result (λ count. count ≡ None → HasEndedAt socket.now.number connections.new.table.entries) }
@@ -150,6 +152,8 @@ pub fn serve_turn<A: AnswerLog>(
         × IsOpenAt socket.now.number connections.new.table.entries }
     // One that waits can't go on: it was tried to write what waits on it, or no whole message is left to be answered.
     ensures rests { result ≡ Waits → RestsAt now socket.now.number connections.new.table.entries }
+    // One fails only by an error of another kind than that its socket would block, or that a signal came.
+    ensures failed { FailsRightly result }
     ensures unanswered { log.new.unanswered.ghost_name ≡ log.old.unanswered.ghost_name }
 {
     let mut most = WRITE_LIMIT;
@@ -184,6 +188,10 @@ pub fn try_turn(connections: &mut Connections, socket: &ConnectionSocket, now: u
     ensures went { (service : ServiceState) → AllWentOn service now connections.old.table.entries connections.new.table.entries }
     ensures tried { IsTriedAt now socket.now.number connections.new.table.entries }
     ensures ended { result ≡ Ended → HasEndedAt socket.now.number connections.new.table.entries }
+    // One whose socket took bytes neither waits nor fails.
+    ensures blocked { (result ≡ Waits) ⊎ HasFailed result
+        → Changes socket.now.number (timed_after_write 0 now) connections.old.table.entries connections.new.table.entries }
+    ensures failed { FailsRightly result }
 {
     match write_some(connections, socket, WRITE_LIMIT, now) {
         Ok(_) if has_ended(connections, socket.number) => Turn::Ended,
@@ -207,6 +215,7 @@ pub fn drain_turn(
     // Where nothing more may come it neither goes on nor waits.
     ensures goes_on { result ≡ GoesOn → ¬ IsDrainedAt socket.now.number connections.old.table.entries }
     ensures waits { result ≡ Waits → ¬ IsDrainedAt socket.now.number connections.new.table.entries }
+    ensures failed { FailsRightly result }
 {
     for _ in 0..STEP_LIMIT {
         if is_drained(connections, socket.number) {

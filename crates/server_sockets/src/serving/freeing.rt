@@ -19,7 +19,8 @@ impl Serving {
 
     /// Returns whether sockets are tried: a connection may wait in the listen backlog, or `may_keep_old` is set.
     pub(crate) fn is_due(&self, may_keep_old: bool) -> bool
-        ensures { self.now.accept_pending ≡ true → accepted_of self.now < (limits_of self.now).connections → result ≡ true }
+        ensures awaited { self.now.accept_pending ≡ true → accepted_of self.now < (limits_of self.now).connections → result ≡ true }
+        ensures old { may_keep_old ≡ true → result ≡ true }
     {
         may_keep_old || self.is_awaited()
     }

@@ -1,4 +1,4 @@
-use Rattle.std.proofs.Common.{◌≡◌, ◌⊎◌}
+use Rattle.std.proofs.Common.{◌≡◌, ◌<◌, ◌⊎◌}
 use Rattle.cog_server.specs.Service.{service_of}
 use Rattle.server_sockets.specs.Going.{AllWentOn}
 use Rattle.server_sockets.specs.Turns.{IsOpenAt, KeepsSlots}
@@ -6,6 +6,7 @@ use Rattle.server_sockets.proofs.turn.serve_turn.Given as goal
 
 abbrev pub invariant-loop : goal.invariant-loop
 invariant-loop g l = record {
+  some : 0 < l.most;
   kept : KeepsSlots l.socket.number l.fn.connections l.connections;
   went : AllWentOn (service_of l.service) l.now l.fn.connections.table.entries l.connections.table.entries;
   unended : ((l.counter ≡ 0) × (l.connections ≡ l.fn.connections)) ⊎ IsOpenAt l.socket.number l.fn.connections.table.entries;
