@@ -151,8 +151,8 @@ int32_t delgunsai_client_by_url(const uint8_t *authority, size_t authority_lengt
  * is a token (RFC 9110, section 5.6.2). The value is visible ASCII, with spaces and tabs inside (section 5.5). There are at most 16 fields.
  * Names, values and four bytes for each field are at most 1,024 bytes in all. Unless the result is 0, the client is as it was.
  *
- * Call it before the first query. Later on, the request that is under way stays as it was written, and its answer is taken. Those that were
- * sent early without the field are made once more, by a driver over a new connection.
+ * Call it before the first query. If you call it later, the request that is under way stays as it was written, and its answer is taken.
+ * Requests that were sent early have no such field, and are made once more. A driver makes a new connection for them.
  *
  * Returns 0; the first of DELGUNSAI_FIELD_.. that applies; COG_MEMORY or COG_NO_CLIENT. */
 int32_t delgunsai_client_add_field(struct cog_client *client, const uint8_t *name, size_t name_length, const uint8_t *value,
@@ -202,8 +202,8 @@ int64_t cog_client_request(struct cog_client *client, uint8_t *room, size_t leng
  * the text's length; 0 if there is no early request at this index; COG_MEMORY or COG_NO_CLIENT. There is none until cog_client_request,
  * cog_client_keep_open and cog_client_look_ahead with a number above 0 were all called. After them the result is 0 only if each later
  * block in reach is there, or an early request before this one asks for it. In reach are the byte ranges that are known to be needed, in
- * their order. They end before one that lies before an earlier one, ends after the file, or has no room in the cache. The client stays as
- * it was. */
+ * their order. The first one that lies before an earlier one, ends after the file, or has no room in the cache isn't in reach, nor is any
+ * after it. The client stays as it was. */
 int64_t cog_client_later(struct cog_client *client, uint32_t index, uint8_t *room, size_t length);
 
 /* cog_client_begin: begins an answer to the request. An unfinished one is dropped. Returns 0 or COG_NO_CLIENT. */
@@ -293,8 +293,8 @@ int64_t cog_client_check(struct cog_client *client, uint8_t *room, size_t length
 
 enum { COG_SAME = 1, COG_OTHER = 2, COG_UNKNOWN = 3 /* for this reason: 1 to 6 or 9 as COG_IGNORED, or 12: nothing is known */ };
 
-/* cog_client_current: reports what the answer to a check, or a front of it, says of the tag. It changes nothing of the client. Returns 0 or
- * COG_NO_CLIENT. */
+/* cog_client_current: reports what the answer to a check, or its first bytes, say of the ETag. It changes nothing of the client. Returns 0
+ * or COG_NO_CLIENT. */
 int32_t cog_client_current(struct cog_client *client, const uint8_t *answer, size_t length, struct cog_said *said);
 
 /* ---- A driver: the library says what to do, and the caller moves bytes.

@@ -1,5 +1,5 @@
-/* example ADDRESS:PORT/NAME X Y W H LEVEL: writes the samples of a window of a file that a server has to standard output, and a line of what
- * they are to standard error. */
+/* example ADDRESS:PORT/NAME X Y W H LEVEL: reads a window of a server's file. Writes its samples to standard output, and a line about the
+ * report to standard error. */
 #include "delgunsai.h"
 #include <arpa/inet.h>
 #include <poll.h>
@@ -36,7 +36,8 @@ static uint32_t move(struct cog_client *client, uint32_t kind, const struct sock
     return count > 0 ? 0 : count == 0 ? DELGUNSAI_ENDED : DELGUNSAI_FAILED;
 }
 
-/* Makes exchanges until a report stands, or no exchange is left. Ends the program after a whole answer that can't be used, as a 404. */
+/* Makes exchanges until a report stands, or no exchange is left. Ends the program if an answer with a whole head can't be used, as a 404,
+ * and no other request was sent with its own. */
 static void run(struct cog_client *client, const struct sockaddr_in *host) {
     static struct line line = {.peer = -1};
     struct delgunsai_step step = {.kind = DELGUNSAI_MORE};
