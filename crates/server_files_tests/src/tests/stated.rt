@@ -1,10 +1,6 @@
 //! Files that state which bytes they give, as files of the disk don't. Of these `disk_files` proves that their bytes are published.
-ghost use Rattle.std.specs.Prelude.{◌≡◌, ◌≤◌, OnOk, Some, length};
-ghost use Rattle.disk_files.specs.Published.{IsFileOf};
-ghost use Rattle.http_range.specs.declared.publication.TheConstants.{FILE_LIMIT};
-
 use cog_server::Server;
-use disk_files::{WatchError, Watched, read_file};
+use disk_files::{Watched, read_file};
 use std::alloc::Global;
 use std::cell::Cell;
 use std::fs::{Metadata, OpenFile, OpenOptions};
@@ -140,19 +136,6 @@ impl<'b, R: Files> Files for Stating<'b, R> {
     }
 }
 
-/// Publishes `watched`. The promise of `publish` about the file's bytes holds here without the premise that the file states them.
-fn publish<'b, R: Files + Clock + AllocGlobal>(
-    rt: &Stating<'b, R>,
-    server: &mut Server,
-    watched: &mut Watched<'_>,
-) -> Result<(), WatchError>
-    ensures { OnOk result ((file : StatedFile R.File)
-        × (length file.rest.now ≤ FILE_LIMIT → IsFileOf watched.old.name.now file.rest.now server.new)) }
-{
-    watched.publish(rt, server)?;
-    Ok(())
-}
-
 /// Publishes a file, then other bytes of it, and then the same ones.
 #[test]
 fn publishes_what_a_file_states(rt: HostRuntime) -> Result<(), Fail> {
@@ -166,7 +149,7 @@ fn publishes_what_a_file_states(rt: HostRuntime) -> Result<(), Fail> {
     );
     let mut server = Server::new(rt.alloc(), 7);
     let mut watched = Watched::new("a", PATH);
-    assert!(rt; publish(&stating, &mut server, &mut watched).is_ok());
+    assert!(rt; watched.publish(&stating, &mut server).is_ok());
     assert!(rt; server.file(b"a") == Some(b"in memory"));
     stating.bytes.set(b"other bytes");
     let other = watched.publish_changed(&stating, &mut server, 0);
