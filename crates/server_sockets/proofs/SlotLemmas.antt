@@ -4,11 +4,11 @@ use Rattle.std.proofs.lemmas.Bool.{cases_lt}
 use Rattle.cog_server.specs.Additions.{ServiceState}
 use Rattle.server_connections.specs.declared.timed.Timed.{Timed}
 use Rattle.server_sockets.specs.declared.serving.Serving.{Serving}
-use Rattle.server_connections.specs.Table.{timed_at}
-use Rattle.server_connections.specs.Yielding.{MayYield}
+use Rattle.server_connections.specs.Table.{Table, timed_at}
+use Rattle.server_connections.specs.Yielding.{IsUntried, MayYield}
 use Rattle.server_sockets.specs.Going.{AllWentOn}
 use Rattle.server_sockets.proofs.GoingLemmas.{all_on, all_still}
-use Rattle.server_sockets.specs.Turns.{HasStartedAt, IsTriedAt}
+use Rattle.server_sockets.specs.Turns.{HasStartedAt, IsTriedAt, TriesOne}
 use Rattle.std.specs.Prelude.{IfSome}
 use Rattle.server_sockets.specs.declared.serving.Limits.{Limits}
 use Rattle.server_sockets.specs.Slots.{AllStart, KeepsAll, KeepsBacklog, KeepsBusy, KeepsFreeing, KeepsTurns, NobodyComes, NoneChanges, StayOrStart, limits_of, slots_of, slot_count}
@@ -113,6 +113,17 @@ tried_as now k a b is same (Some p) there =
 -- one that was tried, and then some lose their slots
 pub tried_still : (now k : ℕ) (a b : Serving) → IsTriedAt now k (slots_of a) → NoneChanges a b → IsTriedAt now k (slots_of b)
 tried_still now k a b is same = tried_as now k a b is same (timed_at k (slots_of b)) refl
+
+some_tried : (now : ℕ) (o : Option ℕ) (a b : Serving) → IfSome o (λ k. IsTriedAt now k (slots_of a)) → NoneChanges a b
+    → IfSome o (λ k. IsTriedAt now k (slots_of b))
+some_tried now None a b tried same = tt
+some_tried now (Some k) a b tried same = tried_still now k a b tried same
+
+-- one of those in the table was tried, and then some lose their slots
+pub tries_still : (now p q : ℕ) (table : Table) (a b : Serving) → p ≡ q → TriesOne now p table (slots_of a) → NoneChanges a b
+    → TriesOne now q table (slots_of b)
+tries_still now p q table a b patience tries same =
+    (tries.0, subst (λ (n : ℕ). IsUntried now n table tries.0) patience tries.1, some_tried now tries.0 a b tries.2 same)
 
 -- what becomes of the connections where others are accepted, where the next one is, and where each has its turn
 pub ruleset accepting = (busy_on, start_on, spared_on, turns_on)

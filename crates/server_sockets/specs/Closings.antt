@@ -6,6 +6,7 @@ use Rattle.server_connections.specs.Table.{Table, timed_at}
 use Rattle.server_connections.specs.Yielding.{IsUntried, is_overdue}
 use Rattle.server_sockets.specs.Going.{AllWentOn}
 use Rattle.server_sockets.specs.Slots.{drains_of, limits_of, ready_of, slots_of}
+use Rattle.server_sockets.specs.Turns.{TriesOne}
 use Rattle.server_sockets.specs.declared.drain.Drain.{Drain}
 use Rattle.server_sockets.specs.declared.serving.Serving.{Serving}
 
@@ -28,6 +29,14 @@ HasDrained now drains k = Any (λ drain. (drain.number ≡ k) × (drain.ends ≤
 -- connection `k` keeps bytes of a replaced file, has made no progress for the patience, and its socket takes none
 abbrev pub IsOverdueAt : Catalogue → ℕ → ℕ → Table → ℕ → Type 0
 IsOverdueAt catalogue now patience table k = IsSomeAnd (timed_at k table) (λ p. is_overdue catalogue now patience p ≡ true)
+
+-- First each connection that was queued has its turn, and no other changes. Then a socket is tried: of those that are to be tried, the one
+-- that was tried the longest ago.
+pub record TriesAfterTurns (service : ServiceState) (now : ℕ) (old new : Serving) : Type 0 where
+  pub turned : Table
+  pub went : AllWentOn service now (slots_of old) turned
+  pub queued : ChangesOnly (Contains (ready_of old)) (slots_of old) turned
+  pub tries : TriesOne now (limits_of old).patience turned (slots_of new)
 
 -- At most one socket is tried. Of those that are to be tried at this moment, it is the one that was tried the longest ago. No other
 -- connection changes, and no other begins to drain.

@@ -5,13 +5,13 @@ ghost use Rattle.std.specs.NonZero.{non_zero_usize_get};
 ghost use Rattle.std.specs.declared.io.ErrorKind.{ErrorKind};
 ghost use Rattle.std.specs.declared.io.ErrorKind.TheVariants.{WouldBlock};
 ghost use Rattle.cog_server.specs.Service.{service_of};
-ghost use Rattle.server_connections.specs.Table.{OthersStay, Table, timed_at};
+ghost use Rattle.server_connections.specs.Table.{OthersStay, timed_at};
 ghost use Rattle.server_connections.specs.Yielding.{FreesAt, IsFirstOverdue};
 ghost use Rattle.mio.specs.Events.{capacity};
 ghost use Rattle.server_sockets.specs.Draining.{IsReadyAt, drain_of};
 ghost use Rattle.server_sockets.specs.Going.{AllWentOn};
 ghost use Rattle.server_sockets.specs.Refusals.{HasNoRoom, IsBarred, IsLasting, IsOfAsking, IsPassing};
-ghost use Rattle.server_sockets.specs.Turns.{FailsRightly, GivesSlot, HasStartedAt, TriesOne};
+ghost use Rattle.server_sockets.specs.Turns.{FailsRightly, GivesSlot, HasStartedAt};
 ghost use Rattle.server_sockets.specs.declared.refusal.AcceptError.TheVariants.{Accept};
 ghost use Rattle.server_sockets.specs.declared.turn.Turn.TheVariants.{Ended, Failed, GoesOn, Waits};
 
@@ -78,7 +78,7 @@ pub struct Serving {
 }
 
 impl Serving {
-    ghost use Rattle.server_sockets.specs.Closings.{BeginsWith, ClosesOnly, DrainsOnly};
+    ghost use Rattle.server_sockets.specs.Closings.{BeginsWith, ClosesOnly, DrainsOnly, TriesAfterTurns};
     ghost use Rattle.server_sockets.specs.Slots.{AcceptsNoMore, AllStart, HasNoSlot, IsServedAt, KeepsAll, KeepsBacklog, KeepsBusy, KeepsFreeing, KeepsTurns, MayKeepOld, NoneChanges, NobodyComes, NobodyYields, Rests, StayOrStart, accepted_of, drains_of, ended_of, frees_of, limits_of, next_of, publications_of, ready_of, slots_of, slot_count};
 
     /// Starts to listen with `listener`, without a connection.
@@ -148,6 +148,8 @@ impl Serving {
         ensures room { slot_count self.new ≡ slot_count self.old }
         ensures ended { ended_of self.old ≤ ended_of self.new }
         ensures last { IfErr result IsLasting }
+        // It ends only where no other connection is accepted, and there is a reason.
+        ensures heard { OnOk result (AcceptsNoMore now self.new) }
 
         // Nothing changes where the backlog is empty, nor once all connections were accepted.
         ensures quiet { self.old.accept_pending ≡ false → self.new ≡ self.old }
@@ -167,7 +169,7 @@ impl Serving {
         ensures due { KeepsTurns self.old self.new }
     {
         let before = self.accepted;
-        for _ in 0..u32::MAX {
+        loop {
             if !self.accept_next(now)? {
                 break;
             }
@@ -187,13 +189,10 @@ impl Serving {
         ensures over { IfSome (slice_get self.new.drains.items 0) (λ drain. now < drain.ends) }
         // Where a connection may wait in the listen backlog, one socket is tried of those that are to be tried after these turns: the one
         // that was tried the longest ago.
-        ensures tried { self.old.accept_pending ≡ true → accepted_of self.old < (limits_of self.old).connections → (turned : Table)
-            × AllWentOn (service_of service.now) now (slots_of self.old) turned
-            × TriesOne now (limits_of self.old).patience turned (slots_of self.new) }
+        ensures tried { self.old.accept_pending ≡ true → accepted_of self.old < (limits_of self.old).connections
+            → TriesAfterTurns (service_of service.now) now self.old self.new }
         // So it is where a connection may keep bytes of a replaced file.
-        ensures tried_old { MayKeepOld service.now.server.now.count self.old → (turned : Table)
-            × AllWentOn (service_of service.now) now (slots_of self.old) turned
-            × TriesOne now (limits_of self.old).patience turned (slots_of self.new) }
+        ensures tried_old { MayKeepOld service.now.server.now.count self.old → TriesAfterTurns (service_of service.now) now self.old self.new }
         // No connection is left that keeps bytes of a replaced file, has made no progress for the patience, and whose socket was tried at
         // this moment and took none.
         ensures freed { MayKeepOld service.now.server.now.count self.old

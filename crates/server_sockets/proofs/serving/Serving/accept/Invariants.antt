@@ -1,4 +1,4 @@
-use Rattle.std.specs.Prelude.{◌≡◌, ◌+◌, ◌-◌, ◌<◌, ◌≤◌, false, length}
+use Rattle.std.specs.Prelude.{◌≡◌, ◌+◌, ◌-◌, ◌*◌, ◌<◌, ◌≤◌, false, length}
 use Rattle.server_sockets.specs.Slots.{HasNoSlot, StayOrStart, KeepsAll, KeepsBusy, KeepsTurns, accepted_of, ended_of, limits_of, next_of, slots_of, slot_count}
 use Rattle.server_sockets.proofs.serving.Serving.accept.Given as goal
 
@@ -22,3 +22,6 @@ invariant-loop l = record {
   waits : HasNoSlot l.now l.fn.self → l.self ≡ l.fn.self;
   few : accepted_of l.fn.self ≤ (limits_of l.fn.self).connections → accepted_of l.self ≤ (limits_of l.fn.self).connections;
 }
+
+abbrev pub decreases-loop : goal.decreases-loop
+decreases-loop l = 2 * ((limits_of l.self).connections - accepted_of l.self) + length (slots_of l.self)

@@ -1,14 +1,15 @@
-use Rattle.std.proofs.Common.{◌≡◌, ◌∙◌, ◌+◌, ◌<◌, ◌≤◌, ℕ, ap, arith, le_trans, length, refl, subst, sym}
+use Rattle.std.proofs.Common.{◌≡◌, ◌∙◌, ◌+◌, ◌<◌, ◌≤◌, ℕ, true, false, ap, arith, le_trans, length, refl, subst, sym}
 use Rattle.cog_server.specs.Additions.{ServiceState}
 use Rattle.cog_server.specs.Service.{service_of}
 use Rattle.server_connections.specs.Table.{timed_at}
+use Rattle.server_sockets.specs.declared.serving.Limits.{Limits}
 use Rattle.server_sockets.specs.declared.serving.Serving.{Serving}
-use Rattle.server_sockets.specs.Closings.{ChangesOnly, ClosesOnly, IsOverdueAt, TriesAlone}
+use Rattle.server_sockets.specs.Closings.{ChangesOnly, ClosesOnly, IsOverdueAt, TriesAfterTurns, TriesAlone}
 use Rattle.server_sockets.specs.Going.{AllWentOn}
 use Rattle.server_sockets.specs.Slots.{KeepsBacklog, KeepsFreeing, NobodyComes, NoneChanges, accepted_of, ended_of, frees_of, limits_of, publications_of, ready_of, slots_of, slot_count}
 use Rattle.server_sockets.proofs.ClosingLemmas.{Turned, changes_none, closing, queue_has_next, tries_none, turned_more}
 use Rattle.server_sockets.proofs.GoingLemmas.{all_on, all_still}
-use Rattle.server_sockets.proofs.SlotLemmas.{went_still}
+use Rattle.server_sockets.proofs.SlotLemmas.{same_on, tries_still, went_still}
 use Rattle.server_sockets.proofs.serving.Serving.turns.Given as given
 use Rattle.server_sockets.proofs.serving.Serving.turns.Goals as goal
 use Rattle.server_sockets.proofs.serving.Serving.turns.Goals.{After-end_drains, then-is_due, else-is_due, in-Some, in_default}
@@ -119,6 +120,40 @@ closed_then g c last same freed =
     closing service c.args.now c.args.self.now c.loop.self c.if-is_due.self c.end_drains.new.self last is.nobody.limits is.queued is.drains tries.0
     c.end_drains.ensures.closes (c.end_drains.ensures.nobody.limits ∙ tries.2 ∙ is.nobody.limits) freed is.went
     (went_still service c.args.now c.loop.self c.end_drains.new.self last (drained_then g c) same)
+
+-- after the turns a socket was tried, where that was due
+tries_then : (g : given.Over) (c : goal.After-end_drains g) → c.is_due-is_due.result ≡ true → (last : Serving) → NoneChanges c.end_drains.new.self last
+    → TriesAfterTurns (service_of c.args.service.now) c.args.now c.args.self.now last
+tries_then g c due last same =
+    let is = c.loop.invariant in
+    record {
+      turned = slots_of c.loop.self;
+      went = is.went;
+      queued = is.queued;
+      tries = elim c.if-is_due.branch [
+        | then-is_due w ↦
+            tries_still c.args.now (limits_of c.loop.self).patience (limits_of c.args.self.now).patience (slots_of c.loop.self) w.try_socket.new.self last
+            (ap (λ (l : Limits). l.patience) is.nobody.limits) w.try_socket.ensures.tried
+            (same_on w.try_socket.new.self c.end_drains.new.self last
+            (subst (λ (x : Serving). NoneChanges x c.end_drains.new.self) w.self-is c.end_drains.ensures.same) same)
+        | else-is_due w ↦ (let clash : true ≡ false = sym due ∙ w.if-is_due.false in cc)
+      ];
+    }
+
+pub returns-then-may_keep_old-clause-tried : goal.returns-then-may_keep_old-clause-tried
+returns-then-may_keep_old-clause-tried g c waits more =
+    tries_then g (goal.at.returns-then-may_keep_old-clause-tried g c).After-end_drains (c.is_due-is_due.ensures.awaited waits more)
+    c.free_old_files.new.self c.free_old_files.ensures.same
+
+pub returns-else-may_keep_old-clause-tried : goal.returns-else-may_keep_old-clause-tried
+returns-else-may_keep_old-clause-tried g c waits more =
+    tries_then g (goal.at.returns-else-may_keep_old-clause-tried g c).After-end_drains (c.is_due-is_due.ensures.awaited waits more)
+    c.end_drains.new.self (λ k p there. there)
+
+pub returns-then-may_keep_old-clause-tried_old : goal.returns-then-may_keep_old-clause-tried_old
+returns-then-may_keep_old-clause-tried_old g c keeps =
+    tries_then g (goal.at.returns-then-may_keep_old-clause-tried_old g c).After-end_drains (c.is_due-is_due.ensures.old c.if-may_keep_old.true)
+    c.free_old_files.new.self c.free_old_files.ensures.same
 
 pub returns-else-may_keep_old-clause-went : goal.returns-else-may_keep_old-clause-went
 returns-else-may_keep_old-clause-went g c =
