@@ -18,13 +18,13 @@ use Rattle.cog_client.specs.Keeps.{RequestsKeeping, StopsAsking}
 use Rattle.client_dialogue.specs.History.{AreOwn, Exchange, IsFresh, IsPlaced, IsRound, IsUnder, Round, Talk, begun, connections_of, fed_of, past_of}
 use Rattle.client_dialogue.specs.History.Round.{Made, Rested, Unasked}
 use Rattle.client_dialogue.specs.Goes.{BeginsAnew, Fails, Goes, IsUsed, KeepsUsed, MakesNone, MakesOne, Stays}
-use Rattle.client_dialogue.specs.Inside.{Concludes, Halts, HasGoneOn, IsConcluded, IsFedBy, IsHaltedBy, given_up}
+use Rattle.client_dialogue.specs.Inside.{Concludes, Halts, HasGoneOn, IsConcluded, IsFedBy, IsHaltedBy, after_put, given_up}
 use Rattle.client_dialogue.specs.declared.step.Exchanged.{Exchanged}
 use Rattle.client_dialogue.specs.declared.step.Step.{Step}
 use Rattle.client_dialogue.specs.declared.step.Step.TheVariants.{Exchanged as AnExchange, More}
 use Rattle.client_dialogue.specs.Goes.{rounds_of}
 use Rattle.client_dialogue.proofs.EventLemmas.{can-end, own_next, run-end, same_came}
-use Rattle.client_dialogue.proofs.HistoryLemmas.{IsQuiet, IsTextOf, begun_goes, begun_on, body_goes, both_true, build, ended_adds, ends_goes, few_at, gone_adds, halted_goes, live_of, made_goes, next, none_goes, open_fresh, quiet_goes, then_let_go, under_false, under_true}
+use Rattle.client_dialogue.proofs.HistoryLemmas.{IsQuiet, IsTextOf, begun_goes, begun_on, body_goes, both_true, build, ended_adds, ends_goes, exposed, few_at, gone_adds, halted_goes, live_of, made_goes, next, none_goes, open_fresh, quiet_goes, then_let_go, under_false, under_true}
 
 abbrev exchanged_of : Exchanged → Step → Exchanged
 exchanged_of x (AnExchange e) = e
@@ -51,7 +51,7 @@ begins_idle t n idle = λ start allowed h c d is.
       },
     )
 
-pub begins_busy : (t : Talk) (n : ℕ) → BeginsAnew n t (record { status = over []; asked = false; exchanges = n })
+pub begins_busy : (t : Talk) (n : ℕ) → BeginsAnew n t (record t { status = over []; asked = false; exchanges = n })
 begins_busy t n = λ start allowed h c d is.
     let same = sym (run-end h.events Ended none_yet) in (
       record { events = h.events ++ Ended ∷ []; rounds = []; last = d; request = [] },
@@ -69,7 +69,7 @@ begins_busy t n = λ start allowed h c d is.
 
 pub begins_over : (t : Talk) → t.asked ≡ false → BeginsAnew t.exchanges t (record t { status = over [] })
 begins_over t idle =
-    subst (λ (b : Bool). BeginsAnew t.exchanges t (record { status = over []; asked = b; exchanges = t.exchanges })) (sym idle) (begins_busy t t.exchanges)
+    subst (λ (b : Bool). BeginsAnew t.exchanges t (record t { status = over []; asked = b })) (sym idle) (begins_busy t t.exchanges)
 
 -- ---- requests
 
@@ -120,7 +120,7 @@ ask_fresh text s = elim (cases_Bool (s.is_open && is_between s)) [
 
 pub put_goes : AnswersBeginAnywhere → (t : Talk) (before c : ClientState) (text : List ℕ) → t.asked ≡ false → 0 < t.exchanges
     → RequestsKeeping before (Some text) c
-    → Goes Stays [] t before (record { status = after_ask text t.status; asked = true; exchanges = t.exchanges - 1 }) c
+    → Goes Stays [] t before (after_put text t) c
 put_goes begins t before c text idle some asks = λ start allowed h is.
     let u = under_false start allowed h t before is idle in
     let few = few_at start allowed h t before false is idle in
@@ -128,7 +128,7 @@ put_goes begins t before c text idle some asks = λ start allowed h is.
     let left : s.left ≡ None = turned_left (turn_of text t.status) text t.status u.1 in (
       next h (Asked text) h.rounds h.last text,
       record { more = Asked text ∷ []; events = refl; taken = inl refl; early = tt; made = refl },
-      build start allowed h t before is (Asked text) h.rounds h.last text (record { status = s; asked = true; exchanges = t.exchanges - 1 }) c tt
+      build start allowed h t before is (Asked text) h.rounds h.last text (after_put text t) c tt
           (ap (after_ask text) is.status) is.rounds (
             c,
             subst (λ (x : ClientState). RequestsKeeping x (Some text) c) u.0 asks,
@@ -141,10 +141,10 @@ put_goes begins t before c text idle some asks = λ start allowed h is.
 
 pub put_fails : AnswersBeginAnywhere → (t : Talk) (before c : ClientState) (text : List ℕ) → t.asked ≡ false → 0 < t.exchanges
     → RequestsKeeping before (Some text) c
-    → Goes Fails [] t before (record { status = over []; asked = false; exchanges = t.exchanges - 1 }) c
+    → Goes Fails [] t before (record t { status = over []; asked = false; exchanges = t.exchanges - 1 }) c
 put_fails begins t before c text idle some asks =
-    then_let_go [] t before (record { status = after_ask text t.status; asked = true; exchanges = t.exchanges - 1 }) c refl
-    (put_goes begins t before c text idle some asks)
+    exposed Fails [] t before (given_up (after_put text t)) c t.looks t.early t.useful
+    (then_let_go [] t before (after_put text t) c refl (put_goes begins t before c text idle some asks))
 
 -- a turn of the client in which nothing happens on a connection
 turn_goes : (rounds : List Round → List Round → Type 0) (r : Round) (t : Talk) (c d : ClientState) → t.asked ≡ false → IsRound r c d
@@ -299,9 +299,11 @@ fed_goes order Interim bytes step t c s u d busy opens takes own fed =
 fed_goes order Again bytes step t c s u d busy opens takes own fed =
     quiet_step Again bytes step t c s u d busy opens takes own tt fed
 fed_goes order Begun bytes step t c s u d busy opens takes own fed =
-    more_step bytes step t c (record t { status = s }) u d fed.0 fed.1 (begun_goes order bytes t c d s busy opens takes own fed.2)
+    more_step bytes step t c (record t { status = s; useful = fed.1.0 }) u d fed.0 fed.1.2
+    (exposed Stays bytes t c (record t { status = s }) d t.looks t.early fed.1.0 (begun_goes order bytes t c d s busy opens takes own fed.2))
 fed_goes order Body bytes step t c s u d busy opens takes own fed =
-    more_step bytes step t c (record t { status = s }) u d fed.0 fed.1 (body_goes bytes t c d s busy opens takes own fed.2)
+    more_step bytes step t c (record t { status = s; useful = t.useful - length bytes }) u d fed.0 fed.1
+    (exposed Stays bytes t c (record t { status = s }) d t.looks t.early (t.useful - length bytes) (body_goes bytes t c d s busy opens takes own fed.2))
 fed_goes order Refused bytes step t c s u d busy opens takes own fed =
     subst (λ (x : Step). Goes (rounds_of x) bytes t c u d) (sym fed.1)
     (subst (λ (x : Talk). Goes (MakesOne fed.0.delivered) bytes t c x d) (sym fed.2)

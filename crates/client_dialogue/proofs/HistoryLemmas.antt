@@ -86,6 +86,16 @@ none_goes bytes t c u d goes = λ start allowed h is.
     let k = goes start allowed h is in
     (k.0, record { more = k.1.more; events = k.1.events; taken = k.1.taken; early = k.1.early; made = inl k.1.made }, k.2)
 
+-- a history speaks neither of looks, nor of what was sent early or is of use
+pub exposed : (rounds : List Round → List Round → Type 0) (bytes : List ℕ) (t : Talk) (c : ClientState) (u : Talk) (d : ClientState) (looks early : Bool)
+    (useful : ℕ) → Goes rounds bytes t c u d → Goes rounds bytes t c (record u { looks = looks; early = early; useful = useful }) d
+exposed rounds bytes t c u d looks early useful goes = λ start allowed h is.
+    let k = goes start allowed h is in (
+      k.0,
+      record { more = k.1.more; events = k.1.events; taken = k.1.taken; early = k.1.early; made = k.1.made },
+      record { can = k.2.can; status = k.2.status; rounds = k.2.rounds; under = k.2.under; own = k.2.own; few = k.2.few },
+    )
+
 taken_then : (bytes : List ℕ) (xs ys : List Event) (s : Status) → came_by xs ≡ [] → AreTaken bytes ys s → AreTaken bytes (xs ++ ys) s
 taken_then bytes xs ys s none h =
     let same : came_by (xs ++ ys) ≡ came_by ys = came-append xs ys ∙ ap (λ (t : List ℕ). t ++ came_by ys) none in

@@ -7,3 +7,5 @@ mod TruthLemmas
 mod EarlyLemmas
 mod StatusLemmas
 mod WaitsLemmas
+mod PlanLemmas
+mod ReadLemmas

@@ -1,17 +1,17 @@
 -- What a call of a dialogue does: whatever happened before, something more has happened after it.
-use Rattle.std.specs.Prelude.{◌≡◌, ⊤, ◌⊎◌, ◌<◌, ℕ, true, false, List, [], ◌∷◌, ◌++◌, length, Some, IsSome}
+use Rattle.std.specs.Prelude.{◌≡◌, ⊤, ◌⊎◌, ◌-◌, ◌<◌, ℕ, not, true, false, List, [], ◌∷◌, ◌++◌, length, min, None, Some, IfSome, IsSome}
 use Rattle.extents.specs.declared.span.Span.{Span}
 use Rattle.client_connection.specs.Run.{Event}
 use Rattle.client_connection.specs.Run.Event.{SentEarly, Came}
-use Rattle.client_connection.specs.Status.{Status}
+use Rattle.client_connection.specs.Status.{Status, is_empty}
 use Rattle.cog_client.specs.declared.delivered.Delivered.{Delivered}
 use Rattle.cog_client.specs.declared.delivered.Delivered.TheVariants.{Ignored, Restarted, Took}
 use Rattle.cog_client.specs.Calls.{IsIdle}
-use Rattle.cog_client.specs.Client.{ClientState}
+use Rattle.cog_client.specs.Client.{ClientState, asked_of, tag_of}
 use Rattle.cog_client.specs.Early.{IsEarly, IsRequestFor}
 use Rattle.client_dialogue.specs.History.{Exchange, History, IsHistory, Round, Talk}
 use Rattle.client_dialogue.specs.History.Round.{LetGo, Made, Rested, Stopped, Unasked}
-use Rattle.client_dialogue.specs.Useful.{IsStatusOf}
+use Rattle.client_dialogue.specs.Useful.{IsStatusOf, IsUseful}
 use Rattle.client_dialogue.specs.declared.step.Exchanged.{Exchanged}
 use Rattle.client_dialogue.specs.declared.step.Step.{Step}
 use Rattle.client_dialogue.specs.declared.step.Step.TheVariants.{Connect, Exchanged as AnExchange, Look, More, Over, Read, Write}
@@ -88,12 +88,16 @@ GetsOthers step = ⊥
 abbrev pub KeepsUsed : Status → Step → Status → Type 0
 KeepsUsed s step t = (e : Exchanged) → step ≡ AnExchange e → s.left ≡ Some 0 → s.closes ≡ false → IsUsed e.delivered → t.is_open ≡ true
 
+-- more of the answer is to be read: its head isn't whole, or more of its body is to come and of use
+abbrev pub IsWanted : Talk → Type 0
+IsWanted t = IfSome t.status.left (λ left. (0 < left) × (0 < t.useful))
+
 -- what holds after each step that a driver is given; after an exchange there is a connection only if its answer was used
 abbrev pub Says : Step → Talk → ClientState → Type 0
 Says Connect t c = (t.asked ≡ true) × (t.status.is_open ≡ false)
-Says Look t c = (t.asked ≡ true) × (t.status.is_open ≡ true)
-Says Write t c = (t.asked ≡ true) × (t.status.is_open ≡ true) × (0 < length t.status.waits)
-Says Read t c = (t.asked ≡ true) × (t.status.is_open ≡ true) × (t.status.waits ≡ []) × ¬ (t.status.left ≡ Some 0)
+Says Look t c = (t.asked ≡ true) × (t.status.is_open ≡ true) × (t.looks ≡ true)
+Says Write t c = (t.asked ≡ true) × (t.status.is_open ≡ true) × (t.looks ≡ false) × (0 < length t.status.waits)
+Says Read t c = (t.asked ≡ true) × (t.status.is_open ≡ true) × (t.looks ≡ false) × (t.status.waits ≡ []) × IsWanted t
 Says More t c = t.asked ≡ true
 Says (AnExchange e) t c = (t.asked ≡ false) × (t.status.is_open ≡ true → IsUsed e.delivered)
 Says Over t c = (t.asked ≡ false) × ((t.exchanges ≡ 0) ⊎ IsIdle c)
@@ -102,6 +106,26 @@ Says Over t c = (t.asked ≡ false) × ((t.exchanges ≡ 0) ⊎ IsIdle c)
 abbrev pub Advances : Talk → ℕ → Step → Type 0
 Advances t n step = (step ≡ More → (0 < n) ⊎ (t.asked ≡ false))
     × ((e : Exchanged) → step ≡ AnExchange e → IsSome t.status.left ⊎ (0 < n))
+
+-- A request that begins on the connection was sent early if others are out there. If none is, it is written only after a look.
+abbrev pub BeginsOn : Talk → Talk → Type 0
+BeginsOn t u = t.asked ≡ false → u.asked ≡ true → u.status.is_open ≡ true
+    → (u.looks ≡ is_empty t.status.out) × (u.early ≡ not (is_empty t.status.out))
+
+-- While an exchange is under way it stays so: whether its request is written only after a look, and whether it was sent early.
+abbrev pub KeepsPlan : Talk → Talk → Type 0
+KeepsPlan t u = t.asked ≡ true → (u.looks ≡ t.looks) × (u.early ≡ t.early)
+
+-- An exchange is under way, and its request is out and needn't wait for a look.
+abbrev pub IsOut : Talk → Type 0
+IsOut t = (t.asked ≡ true) × (t.looks ≡ false) × (0 < length t.status.out)
+
+-- Once the head of an answer is whole, it is known how many bytes of the body the client can use. Of the body as many bytes are taken as
+-- are there, to come, and of use. The exchange ends only once none is to come, or none of use.
+pub record ReadsUseful (t : Talk) (c : ClientState) (bytes : List ℕ) (n : ℕ) (step : Step) (u : Talk) : Type 0 where
+  pub begins : t.status.left ≡ None → step ≡ More → IsSome u.status.left → IsUseful u.status.head (asked_of c) (tag_of c) u.useful
+  pub takes : IfSome t.status.left (λ left. step ≡ More → (n ≡ min left (min t.useful (length bytes))) × (u.useful ≡ t.useful - n))
+  pub ends : IfSome t.status.left (λ left. (e : Exchanged) → step ≡ AnExchange e → (left ≡ 0) ⊎ (t.useful ≡ 0))
 
 -- While a connection stays, what waits to be written stays. More may be added after it.
 abbrev pub KeepsWaits : Status → Status → Type 0

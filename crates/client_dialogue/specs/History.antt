@@ -93,11 +93,16 @@ AreOwn (LetGo request text ∷ rs) cs = AreOwn rs cs
 
 -- ---- histories
 
--- what is known of a dialogue: its connections, whether an exchange is under way, and how many more may be begun
+-- What is known of a dialogue: its connections, whether an exchange is under way, and how many more may be begun. A history speaks of these
+-- alone. And of the exchange under way: whether its request is written only after a look, whether it was sent early, and how many bytes of
+-- the body are still of use.
 pub record Talk : Type 0 where
   pub status : Status
   pub asked : Bool
   pub exchanges : ℕ
+  pub looks : Bool
+  pub early : Bool
+  pub useful : ℕ
 
 -- what happened so far: on the connections; in rounds, the last one first; the client after these; and the request under way
 pub record History : Type 0 where

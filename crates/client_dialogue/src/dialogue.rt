@@ -1,7 +1,7 @@
 //! The exchanges of a client, one after another.
-ghost use Rattle.std.specs.Prelude.{◌≡◌, ◌<◌, ◌≤◌, [], false, true, IfOk, OnErr, OnOk, length, take};
+ghost use Rattle.std.specs.Prelude.{◌≡◌, ◌≢◌, ◌<◌, ◌≤◌, ◌⊎◌, [], false, true, IfOk, OnErr, OnOk, length, take};
 ghost use Rattle.client_connection.specs.Status.{after_open, after_write, is_again, over};
-ghost use Rattle.client_dialogue.specs.Goes.{Advances, BeginsAnew, Fails, GetsOthers, Goes, HasStatusOf, KeepsUsed, KeepsWaits, MakesNone, Says, TellsStatus, rounds_of};
+ghost use Rattle.client_dialogue.specs.Goes.{Advances, BeginsAnew, BeginsOn, Fails, GetsOthers, Goes, HasStatusOf, IsOut, KeepsPlan, KeepsUsed, KeepsWaits, MakesNone, ReadsUseful, Says, TellsStatus, rounds_of};
 ghost use Rattle.client_dialogue.specs.declared.step.Step.TheVariants.{More};
 
 mod answering;
@@ -48,13 +48,20 @@ impl Model for Dialogue {
 
     ghost Value = { Talk };
 
-    ghost view = { λ d. record { status = d.connection; asked = d.asked; exchanges = d.exchanges } };
+    ghost view = { λ d. record {
+      status = d.connection;
+      asked = d.asked;
+      exchanges = d.exchanges;
+      looks = d.looks;
+      early = d.is_early;
+      useful = d.useful;
+    } };
 }
 
 impl Dialogue {
     /// Makes one without a connection, for a client whose connections may be kept. Up to `depth` requests are sent early, and at most 8.
     pub fn new(alloc: Global, depth: u32) -> Self
-        ensures { result ≡ record { status = over []; asked = false; exchanges = 0 } }
+        ensures { result ≡ record { status = over []; asked = false; exchanges = 0; looks = false; early = false; useful = 0 } }
     {
         Dialogue {
             connection: ClientConnection::new(alloc),
@@ -125,7 +132,7 @@ impl Dialogue {
 
     /// Notes that the connection is silent: the request may be written.
     pub fn silent(&mut self)
-        ensures { self.new ≡ self.old }
+        ensures { self.new ≡ record self.old { looks = false } }
     {
         self.looks = false;
     }
@@ -136,7 +143,7 @@ impl Dialogue {
         ensures ok { OnOk result (Goes MakesNone [] self.old client.now self.new client.now) }
         ensures opens { OnOk result (self.new.status.is_open ≡ true) }
         ensures opened { OnOk result (self.old.status.is_open ≡ false
-            → self.new ≡ record self.old { status = after_open self.old.status }) }
+            → self.new ≡ record self.old { status = after_open self.old.status; looks = true; early = false }) }
         ensures same { self.old.status.is_open ≡ true → OnOk result (self.new ≡ self.old) }
         ensures err { OnErr result (Goes Fails [] self.old client.now self.new client.now) }
     {
@@ -167,6 +174,10 @@ impl Dialogue {
         ensures keeps { IfOk result (λ progress. KeepsUsed self.old.status progress.step self.new.status) }
         ensures waits { OnOk result (KeepsWaits self.old.status self.new.status) }
         ensures advances { IfOk result (λ progress. Advances self.old progress.count progress.step) }
+        ensures begins { OnOk result (BeginsOn self.old self.new) }
+        ensures plan { OnOk result (KeepsPlan self.old self.new) }
+        ensures useful { IsOut self.old
+            → IfOk result (λ progress. ReadsUseful self.old client.old bytes.now progress.count progress.step self.new) }
         ensures status { 0 < length self.old.status.out
             → IfOk result (λ progress. TellsStatus self.old.status.head (take progress.count bytes.now) progress.step) }
         ensures err { OnErr result (Goes Fails [] self.old client.old self.new client.new) }
@@ -214,7 +225,8 @@ impl Dialogue {
         ensures over { self.new.status.is_open ≡ false }
         ensures status { IfOk result (HasStatusOf self.old.status.head) }
         ensures again { IfOk result (λ step. step ≡ More → is_again self.old.status ≡ true) }
-        ensures kept { ¬ (how ≡ Loss.Late) → is_again self.old.status ≡ true → result ≡ Ok More }
+        ensures kept { (¬ (how ≡ Loss.Late)) ⊎ (self.old.early ≡ true) → is_again self.old.status ≡ true → result ≡ Ok More }
+        ensures late { how ≡ Loss.Late → self.old.early ≡ false → IfOk result (λ step. step ≢ More) }
         ensures err { OnErr result (Goes Fails [] self.old client.old self.new client.new) }
     {
         self.count_loss(how);

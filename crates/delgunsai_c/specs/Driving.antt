@@ -2,7 +2,7 @@
 use Rattle.std.specs.Prelude.{◌≡◌, ◌⊎◌, ◌<◌, ◌≤◌, ℕ, ℤ, pos, Bool, if◌then◌else◌, List, [], length, take, Option, None, Some, Result, Ok, Err}
 use Rattle.client_connection.specs.Status.{Status}
 use Rattle.client_dialogue.specs.Checking.{AdvancesCheck, ChecksBy, GetsOthersFor}
-use Rattle.client_dialogue.specs.Goes.{Advances, Fails, GetsOthers, Goes, KeepsUsed, KeepsWaits, Says, TellsStatus, rounds_of}
+use Rattle.client_dialogue.specs.Goes.{Advances, BeginsOn, Fails, GetsOthers, Goes, IsOut, KeepsPlan, KeepsUsed, KeepsWaits, ReadsUseful, Says, TellsStatus, rounds_of}
 use Rattle.client_dialogue.specs.Useful.{IsStatusOf}
 use Rattle.client_dialogue.specs.declared.check.CheckStep.{CheckStep}
 use Rattle.client_dialogue.specs.declared.check.CheckStep.TheVariants as check
@@ -60,6 +60,9 @@ pub record GoesOn (bytes : List ℕ) (n : ℕ) (step : Step) (h k : Held) : Type
   pub says : Says step k.dialogue k.client
   pub keeps : KeepsUsed h.dialogue.status step k.dialogue.status
   pub advances : Advances h.dialogue n step
+  pub begins : BeginsOn h.dialogue k.dialogue
+  pub plan : KeepsPlan h.dialogue k.dialogue
+  pub useful : IsOut h.dialogue → ReadsUseful h.dialogue h.client bytes n step k.dialogue
   pub status : 0 < length h.dialogue.status.out → TellsStatus h.dialogue.status.head (take n bytes) step
   pub waits : KeepsWaits h.dialogue.status k.dialogue.status
   pub check : k.check ≡ None

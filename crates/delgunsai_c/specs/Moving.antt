@@ -1,5 +1,5 @@
 -- What becomes of what a handle holds when its driver reports an event of the connection.
-use Rattle.std.specs.Prelude.{◌≡◌, ◌⊎◌, ◌≤◌, ◌++◌, ℕ, ℤ, pos, true, false, List, [], length, take, drop, Option, None, Some, IsSome, Result, Ok, Err}
+use Rattle.std.specs.Prelude.{◌≡◌, ◌≢◌, ◌⊎◌, ◌≤◌, ◌++◌, ℕ, ℤ, pos, true, false, List, [], length, take, drop, Option, None, Some, IsSome, Result, Ok, Err}
 use Rattle.client_connection.specs.Status.{Status, after_gone, after_open, after_write, is_again, over}
 use Rattle.cog_client.specs.Check.{check_of}
 use Rattle.client_dialogue.specs.Checking.{IsCheckOf}
@@ -14,9 +14,9 @@ use Rattle.delgunsai_c.specs.declared.held.Held.{Held}
 use Rattle.delgunsai_c.specs.Driving.{TellsStep, numbers_of, plain}
 use Rattle.delgunsai_c.specs.Failure.{code_of}
 
--- Nothing changes, and the number is 0.
-abbrev pub Keeps : ℤ → Held → Held → Type 0
-Keeps told h k = (told ≡ pos 0) × (k ≡ h)
+-- The request needn't wait for a look any more. Nothing else changes, and the number is 0.
+abbrev pub EndsLook : ℤ → Held → Held → Type 0
+EndsLook told h k = (told ≡ pos 0) × (k ≡ record h { dialogue = record h.dialogue { looks = false } })
 
 -- Nothing changes, since the call doesn't fit.
 abbrev pub IsOutOfOrder : ℤ → Held → Held → Type 0
@@ -63,7 +63,7 @@ OpensCheck told s new = ((told ≡ pos 0) × (new ≡ after_open s)) ⊎ ((told 
 
 -- there is a connection: a new one, or the one that was there
 abbrev pub IsOpened : Talk → Talk → Type 0
-IsOpened t u = (u.status.is_open ≡ true) × (t.status.is_open ≡ false → u ≡ record t { status = after_open t.status })
+IsOpened t u = (u.status.is_open ≡ true) × (t.status.is_open ≡ false → u ≡ record t { status = after_open t.status; looks = true; early = false })
     × (t.status.is_open ≡ true → u ≡ t)
 
 abbrev pub ConnectsBy : Option Status → ℤ → Held → Held → Type 0
@@ -79,9 +79,10 @@ Connects told h k = ConnectsBy h.check told h k
 
 -- ---- the end of a connection
 
--- The request is out on a connection that was kept, nothing came of the answer, and the connection isn't late (`how` is not 3).
+-- The request is out on a connection that was kept, and nothing came of the answer. The connection isn't late (`how` is not 3), or the
+-- request was sent early.
 abbrev pub IsSentAgain : ℕ → Held → Type 0
-IsSentAgain how h = (is_again h.dialogue.status ≡ true) × ¬ (how ≡ 3)
+IsSentAgain how h = (is_again h.dialogue.status ≡ true) × ((¬ (how ≡ 3)) ⊎ (h.dialogue.early ≡ true))
 
 -- The exchange went on without its connection. Its request is sent once more, or the exchange is over.
 pub record GoesOnWithout (how : ℕ) (step : Step) (h k : Held) : Type 0 where
@@ -91,6 +92,7 @@ pub record GoesOnWithout (how : ℕ) (step : Step) (h k : Held) : Type 0 where
   pub status : HasStatusOf h.dialogue.status.head step
   pub again : step ≡ More → is_again h.dialogue.status ≡ true
   pub kept : IsSentAgain how h → step ≡ More
+  pub late : how ≡ 3 → h.dialogue.early ≡ false → step ≢ More
 
 -- No exchange was under way. Only the connection changes: it is over.
 pub record EndsIdle (out : NextStep) (h k : Held) : Type 0 where

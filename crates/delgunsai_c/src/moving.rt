@@ -2,7 +2,7 @@
 ghost use Rattle.std.specs.Prelude.{◌≡◌, None};
 ghost use Rattle.delgunsai_c.specs.Driving.{Drives};
 ghost use Rattle.delgunsai_c.specs.Handle.{held_of};
-ghost use Rattle.delgunsai_c.specs.Moving.{AsksSame, Connects, EndsBy, EndsOr, Keeps, LaysWaiting, OpensCheck, SetsExchanges, Writes, waits_of};
+ghost use Rattle.delgunsai_c.specs.Moving.{AsksSame, Connects, EndsBy, EndsLook, EndsOr, LaysWaiting, OpensCheck, SetsExchanges, Writes, waits_of};
 
 use crate::driving::{NextStep, lay_step, next_step, plain};
 use crate::failure::Failure;
@@ -126,7 +126,7 @@ pub extern "C" fn delgunsai_client_connected(alloc: Global, client: &mut Handle)
 /// Notes that nothing came on the connection before the request is written. Returns 0 or `COG_NO_CLIENT`.
 #[unsafe(no_mangle)]
 pub extern "C" fn delgunsai_client_silent(alloc: Global, client: &mut Handle) -> i32
-    ensures { Drives (Keeps result) (held_of client.old) (held_of client.new) result }
+    ensures { Drives (EndsLook result) (held_of client.old) (held_of client.new) result }
 {
     let Some(mut held) = client.take(alloc) else {
         return Failure::NoClient.code();
@@ -138,7 +138,9 @@ pub extern "C" fn delgunsai_client_silent(alloc: Global, client: &mut Handle) ->
 
 /// Returns how a connection was lost, by its number: 1 is ended, 3 is late, and any other is failed.
 fn loss_of(how: u32) -> Loss
-    ensures { result ≡ Loss.Late → how ≡ 3 }
+    ensures late { result ≡ Loss.Late → how ≡ 3 }
+    ensures three { how ≡ 3 → result ≡ Loss.Late }
+    ensures ended { how ≡ 1 → result ≡ Loss.Ended }
 {
     match how {
         1 => Loss::Ended,

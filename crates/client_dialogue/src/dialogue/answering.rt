@@ -1,10 +1,11 @@
 //! Answers are taken.
-ghost use Rattle.std.specs.Prelude.{◌≡◌, ◌≢◌, ◌<◌, ◌≤◌, ◌⊎◌, [], false, true, Some, IfOk, IsSome, OnErr, OnOk, length, take};
+ghost use Rattle.std.specs.Prelude.{◌≡◌, ◌≢◌, ◌-◌, ◌<◌, ◌≤◌, ◌⊎◌, [], false, true, None, Some, IfOk, IfSome, IsSome, OnErr, OnOk, length, max, min, take};
+ghost use Rattle.cog_client.specs.Client.{asked_of, tag_of};
 ghost use Rattle.client_connection.specs.Status.{is_again};
-ghost use Rattle.client_dialogue.specs.Useful.{IsStatusOf};
+ghost use Rattle.client_dialogue.specs.Useful.{IsStatusOf, IsUseful};
 ghost use Rattle.client_dialogue.specs.declared.step.Step.TheVariants.{More};
-ghost use Rattle.client_dialogue.specs.Goes.{Fails, GetsOthers, Goes, HasStatusOf, IsUsed, KeepsUsed, KeepsWaits, Says, TellsStatus, rounds_of};
-ghost use Rattle.client_dialogue.specs.Inside.{Concludes, Feeds, Halts, HasGoneOn, IsConcluded, IsFedBy, IsHaltedBy, given_up};
+ghost use Rattle.client_dialogue.specs.Goes.{Fails, GetsOthers, Goes, HasStatusOf, IsUsed, IsWanted, KeepsPlan, KeepsUsed, KeepsWaits, Says, TellsStatus, rounds_of};
+ghost use Rattle.client_dialogue.specs.Inside.{Concludes, Feeds, FindsUseful, Halts, HasGoneOn, IsConcluded, IsFedBy, IsHaltedBy, given_up};
 
 use crate::dialogue::Dialogue;
 use crate::step::{Exchanged, Progress, Step};
@@ -41,6 +42,7 @@ impl Dialogue {
     pub(super) fn look(&mut self, client: &mut Client, bytes: &[u8]) -> Result<Progress, Memory>
         requires busy { self.old.asked ≡ true }
         requires opens { self.old.status.is_open ≡ true }
+        requires looks { self.old.looks ≡ true }
         ensures few { IfOk result (λ progress. progress.count ≤ length bytes.now) }
         ensures drops { IfOk result (λ progress. GetsOthers progress.step → progress.count ≡ length bytes.now) }
         ensures goes { IfOk result (λ progress.
@@ -50,6 +52,7 @@ impl Dialogue {
         ensures status { 0 < length self.old.status.out
             → IfOk result (λ progress. TellsStatus self.old.status.head (take progress.count bytes.now) progress.step) }
         ensures some { IfOk result (λ progress. (progress.step ≡ Step.Look) ⊎ (0 < progress.count)) }
+        ensures plan { OnOk result (KeepsPlan self.old self.new) }
         ensures err { OnErr result (Goes Fails [] self.old client.old self.new client.new) }
     {
         if bytes.is_empty() {
@@ -80,6 +83,11 @@ impl Dialogue {
         ensures status { 0 < length self.old.status.out
             → IfOk result (λ progress. TellsStatus self.old.status.head (take progress.count bytes.now) progress.step) }
         ensures count { IfOk result (λ progress. 0 < progress.count) }
+        ensures plan { OnOk result (KeepsPlan self.old self.new) }
+        ensures begins { self.old.status.left ≡ None → IfOk result (λ progress. progress.step ≡ More → IsSome self.new.status.left
+            → IsUseful self.new.status.head (asked_of client.old) (tag_of client.old) self.new.useful) }
+        ensures body { 0 < length self.old.status.out → IfSome self.old.status.left (λ left. IfOk result (λ progress. (progress.step ≡ More)
+            × (progress.count ≡ min left (min (max self.old.useful 1) (length bytes.now))) × (self.new.useful ≡ self.old.useful - progress.count))) }
         ensures err { OnErr result (Goes Fails [] self.old client.old self.new client.new) }
     {
         law_answers_are_in_order();
@@ -114,6 +122,7 @@ impl Dialogue {
     fn most(&self, bytes: &[u8]) -> usize
         ensures some { 0 < length bytes.now → 0 < result }
         ensures few { result ≤ length bytes.now }
+        ensures body { IsSome self.now.status.left → result ≡ min (max self.now.useful 1) (length bytes.now) }
     {
         match self.connection.left() {
             None => bytes.len(),
@@ -124,7 +133,9 @@ impl Dialogue {
     /// Returns whether all that is read of the answer came.
     pub(super) fn is_read(&self) -> bool
         ensures yes { result ≡ true → IsSome self.now.status.left }
+        ensures read { result ≡ true → IfSome self.now.status.left (λ left. (left ≡ 0) ⊎ (self.now.useful ≡ 0)) }
         ensures no { result ≡ false → ¬ (self.now.status.left ≡ Some 0) }
+        ensures wanted { result ≡ false → IsWanted self.now }
     {
         match self.connection.left() {
             None => false,
@@ -134,12 +145,13 @@ impl Dialogue {
 
     /// Feeds the head of an answer, which is whole.
     fn begin_body(&mut self, client: &mut Client) -> Result<Step, Memory>
-        ensures ok { IfOk result (λ step. (step ≡ More) × (self.new ≡ self.old) × Feeds self.old.status.head client.old client.new) }
+        ensures ok { IfOk result (λ step. (step ≡ More) × FindsUseful self.old client.old self.new
+            × Feeds self.old.status.head client.old client.new) }
         ensures err { OnErr result ((self.new ≡ given_up self.old) × Halts self.old.status.head client.old client.new) }
     {
-        let head = self.connection.head();
-        self.useful = useful_length(head, client.asked(), client.tag());
+        let useful = useful_length(self.connection.head(), client.asked(), client.tag());
         self.feed_head(client)?;
+        self.useful = useful;
         Ok(Step::More)
     }
 
@@ -157,14 +169,15 @@ impl Dialogue {
 
     /// Feeds bytes of the body.
     fn feed_body(&mut self, client: &mut Client, bytes: &[u8]) -> Result<Step, Memory>
-        ensures ok { IfOk result (λ step. (step ≡ More) × (self.new ≡ self.old) × Feeds bytes.now client.old client.new) }
+        ensures ok { IfOk result (λ step. (step ≡ More) × (self.new ≡ record self.old { useful = self.old.useful - length bytes.now })
+            × Feeds bytes.now client.old client.new) }
         ensures err { OnErr result ((self.new ≡ given_up self.old) × Halts bytes.now client.old client.new) }
     {
-        self.useful = self.useful.saturating_sub(bytes.len() as u64);
         if client.feed(bytes).is_err() {
             self.give_up();
             return Err(Memory);
         }
+        self.useful = self.useful.saturating_sub(bytes.len() as u64);
         Ok(Step::More)
     }
 
@@ -220,6 +233,7 @@ impl Dialogue {
         ensures says { IfOk result (λ step. Says step self.new client.new) }
         ensures keeps { IfOk result (λ step. KeepsUsed self.old.status step self.new.status) }
         ensures waits { OnOk result (KeepsWaits self.old.status self.new.status) }
+        ensures plan { OnOk result (KeepsPlan self.old self.new) }
         ensures status { IfOk result (HasStatusOf self.old.status.head) }
         ensures err { OnErr result (Goes Fails [] self.old client.old self.new client.new) }
     {
@@ -254,6 +268,7 @@ impl Dialogue {
         ensures over { self.new.status.is_open ≡ false }
         ensures again { IfOk result (λ step. step ≡ More → is_again self.old.status ≡ true) }
         ensures kept { is_again self.old.status ≡ true → result ≡ Ok More }
+        ensures plan { OnOk result (KeepsPlan self.old self.new) }
     {
         law_answers_are_in_order();
         let begun = self.connection.left().is_some();

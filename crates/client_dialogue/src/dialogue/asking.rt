@@ -1,10 +1,11 @@
 //! Requests are sent.
 ghost use Rattle.std.specs.Prelude.{◌≡◌, ◌-◌, ◌<◌, ◌⊎◌, [], false, true, Some, IfOk, OnErr, OnOk};
-ghost use Rattle.client_connection.specs.Status.{after_ask, over};
+ghost use Rattle.client_connection.specs.Status.{over};
 ghost use Rattle.cog_client.specs.Client.{ClientState};
 ghost use Rattle.cog_client.specs.Keeps.{RequestsKeeping};
 ghost use Rattle.client_dialogue.specs.declared.step.Step.TheVariants.{More};
-ghost use Rattle.client_dialogue.specs.Goes.{Fails, GetsOthers, Goes, IsEarlyFor, KeepsWaits, Says, Stays, rounds_of};
+ghost use Rattle.client_dialogue.specs.Inside.{after_put};
+ghost use Rattle.client_dialogue.specs.Goes.{BeginsOn, Fails, GetsOthers, Goes, IsEarlyFor, KeepsPlan, KeepsWaits, Says, Stays, rounds_of};
 
 use crate::dialogue::Dialogue;
 use crate::step::Step;
@@ -21,6 +22,7 @@ impl Dialogue {
         ensures goes { IfOk result (λ step. Goes (rounds_of step) [] self.old client.old self.new client.new) }
         ensures says { IfOk result (λ step. Says step self.new client.new) }
         ensures waits { OnOk result (KeepsWaits self.old.status self.new.status) }
+        ensures begins { OnOk result (BeginsOn self.old self.new) }
         ensures err { OnErr result (Goes Fails [] self.old client.old self.new client.new) }
     {
         if self.exchanges == 0 {
@@ -40,6 +42,7 @@ impl Dialogue {
             → Goes Stays [] self.old before self.new client.now) }
         ensures says { IfOk result (λ step. (step ≡ More) × (self.new.asked ≡ true)) }
         ensures waits { OnOk result (KeepsWaits self.old.status self.new.status) }
+        ensures begins { OnOk result (BeginsOn self.old self.new) }
         ensures err { OnErr result ((before : ClientState) → RequestsKeeping before (Some text.now) client.now
             → Goes Fails [] self.old before self.new client.now) }
     {
@@ -53,9 +56,9 @@ impl Dialogue {
     fn put(&mut self, text: &[u8]) -> Result<(), Memory>
         requires idle { self.old.asked ≡ false }
         requires some { 0 < self.old.exchanges }
-        ensures ok { OnOk result (self.new
-            ≡ record { status = after_ask text.now self.old.status; asked = true; exchanges = self.old.exchanges - 1 }) }
-        ensures err { OnErr result (self.new ≡ record { status = over []; asked = false; exchanges = self.old.exchanges - 1 }) }
+        ensures ok { OnOk result (self.new ≡ after_put text.now self.old) }
+        ensures err { OnErr result (self.new
+            ≡ record self.old { status = over []; asked = false; exchanges = self.old.exchanges - 1 }) }
     {
         self.exchanges -= 1;
         let turn = self.connection.ask(text)?;
@@ -72,6 +75,7 @@ impl Dialogue {
         ensures ok { OnOk result (Goes Stays [] self.old client.now self.new client.now) }
         ensures asked { OnOk result (self.new.asked ≡ true) }
         ensures waits { OnOk result (KeepsWaits self.old.status self.new.status) }
+        ensures plan { OnOk result (KeepsPlan self.old self.new) }
         ensures err { OnErr result (Goes Fails [] self.old client.now self.new client.now) }
     {
         let Ok(requests) = client.early_requests(self.depth.min(self.exchanges)) else {
@@ -90,6 +94,7 @@ impl Dialogue {
         ensures ok { OnOk result (Goes Stays [] self.old client.now self.new client.now) }
         ensures asked { OnOk result (self.new.asked ≡ true) }
         ensures waits { OnOk result (KeepsWaits self.old.status self.new.status) }
+        ensures plan { OnOk result (KeepsPlan self.old self.new) }
         ensures err { OnErr result (Goes Fails [] self.old client.now self.new client.now) }
     {
         if !self.connection.is_open() {
