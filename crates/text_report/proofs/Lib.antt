@@ -1,1 +1,2 @@
 mod DirectoryLemmas
+mod UnreadLemmas

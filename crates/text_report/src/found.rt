@@ -1,7 +1,9 @@
 //! The value of a field for which a file isn't read.
 ghost use Rattle.std.specs.Prelude.{◌≡◌, false, true, IfSome, List, ℕ};
 ghost use Rattle.tiff_dir.specs.Level.{is_level};
-ghost use Rattle.text_report.specs.Found.{HasValue, is_read};
+ghost use Rattle.known_fields.specs.Directories.{IsChainWhole};
+ghost use Rattle.known_fields.specs.Reads.{AreAllKnown};
+ghost use Rattle.text_report.specs.Found.{HasValue, first_unread, is_read};
 
 use known_fields::{KnownBytes, known_directories, known_value};
 use tiff_dir::field_values::{
@@ -28,19 +30,23 @@ fn is_read(tag: u16, value: u64) -> bool
     }
 }
 
-/// Returns whether directory `directory` is known to be a level.
+/// Returns whether directory `directory` is known to be a level. Where all of the file is known, this is whether it is one.
 #[tactic(auto, unfolding(tiff_dir::specs::Level::is_level))]
 fn is_known_level<B: KnownBytes>(bytes: &B, directory: u16) -> bool
-    ensures { result ≡ true → (f : List ℕ) → B.is_of bytes.now f → is_level f directory ≡ true }
+    ensures known { result ≡ true → (f : List ℕ) → B.is_of bytes.now f → is_level f directory ≡ true }
+    ensures whole { (f : List ℕ) → B.is_of bytes.now f → AreAllKnown (B.is_known bytes.now) f → result ≡ is_level f directory }
 {
     directory == 0 || known_value(bytes, directory, tags::NEW_SUBFILE_TYPE, 0) == Some(1)
 }
 
 /// Returns a value of the field `tag` that isn't read: the first one among the values 0 of the file's levels. Returns `None` where no such
-/// value is known. A mask's field may have another value, which is no reason for a fault.
+/// value is known. Where all of the file is known, and its directories can be counted, the result is exactly that value, or `None` if the
+/// file has none. A mask's field may have another value, which is no reason for a fault.
 pub fn found_value<B: KnownBytes>(bytes: &B, tag: u16) -> Option<u64>
     ensures unread { IfSome result (λ v. is_read tag v ≡ false) }
     ensures there { IfSome result (λ v. (f : List ℕ) → B.is_of bytes.now f → HasValue f tag v) }
+    ensures whole { (f : List ℕ) → B.is_of bytes.now f → AreAllKnown (B.is_known bytes.now) f → IsChainWhole f
+        → result ≡ first_unread f tag }
 {
     let directories = known_directories(bytes)?;
     for directory in 0..directories {
