@@ -1,5 +1,5 @@
-use Rattle.std.proofs.Common.{◌+◌, arith, refl, ◌∙◌}
-use Rattle.text_description.proofs.NoDataLemmas.{no_more_mask, one_more_mask}
+use Rattle.std.proofs.Common.{◌+◌, arith, refl, sym, ◌∙◌}
+use Rattle.text_description.proofs.NoDataLemmas.{no_more_mask, one_more_mask, type_missing}
 use Rattle.text_description.proofs.no_data.count_masks.Goals as goal
 use Rattle.text_description.proofs.no_data.count_masks.Goals.{then-branch-eq1, else-branch-eq1}
 
@@ -18,3 +18,8 @@ loop-directory-preserved g c = record {
         | else-branch-eq1 w ↦ w.count-is ∙ no_more_mask f k (k + 1) c.loop-directory.count c.in_ok-known_value.field-0 refl before told w.if-branch-eq1.false
       ];
 }
+
+pub returns-in_err-known_value-clause-whole : goal.returns-in_err-known_value-clause-whole
+returns-in_err-known_value-clause-whole g c = λ f of all chain types.
+    absurd (type_missing f c.in_ok-directory-end.directory-end c.loop-directory.directory (c.in_ok-directory-end.ensures.known f of) types c.loop-directory-test.true
+    (sym (c.in_err-known_value.ensures.whole f of all)))
