@@ -41,7 +41,3 @@ pub ask_first : (text : List ℕ) (s t : Status) → t ≡ after_ask text s → 
 ask_first text s t is =
     let first = turned_first (turn_of text s) text s refl in
     (first.0, ap (λ (x : Status). x.out) is ∙ first.1)
-
--- a request that isn't sent again was the first one out
-pub sent_before : (text : List ℕ) (s : Status) → turn_of text s ≡ Sent → (early : List (List ℕ)) × (s.out ≡ text ∷ early)
-sent_before text s e = sent_first s.out text (on_it Sent text s (λ x. let clash : Sent ≡ Anew = x in cc) e)

@@ -1,6 +1,4 @@
-use Rattle.std.proofs.Common.{◌≡◌, ◌∷◌, ℕ, List, [], ap, inl, inr, sym, ◌∙◌}
-use Rattle.client_connection.specs.Status.{Status}
-use Rattle.client_sockets.proofs.AskLemmas.{ask_first, sent_before}
+use Rattle.client_sockets.proofs.AskLemmas.{ask_first}
 use Rattle.client_sockets.proofs.socket.Socket.send.Goals as goal
 
 pub returns-in-Ok-Sent-clause-asked : goal.returns-in-Ok-Sent-clause-asked
