@@ -1,5 +1,5 @@
-//! How fast the loops over bytes go, and the server. Without a word it checks what they give; with the word `measure` it
-//! prints how many GB a second each loop writes on hot tiles, first on the packed tiles of the files whose names follow, and how
+//! How fast the loops over bytes go, and the server. Without a word it checks what they give. With the word `measure` it prints how
+//! many GB a second each loop writes on hot tiles. The packed tiles of the files whose names follow come first. It also prints how
 //! many answers a second are served from memory, and how quickly a client takes one.
 #![tactic(auto)]
 

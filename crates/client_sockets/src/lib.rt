@@ -1,5 +1,5 @@
-//! Sockets under a client: requests go to a server that is named by its address, and answers come as they arrive, over one connection
-//! for each request, or over one that is kept from answer to answer.
+//! Sockets under a client. Requests go to a server that is named by its address, and answers come as they arrive. There is one connection
+//! for each request, or one that is kept from answer to answer.
 #![tactic(auto)]
 
 mod socket;

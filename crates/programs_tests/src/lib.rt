@@ -1,5 +1,5 @@
 //! Tests of what the command prints, and of its exit status. This crate and the crates of tests beside it show each line of a fault with
-//! its status, help, and the lines of the programs:
+//! its status, help, and the lines of the programs.
 //!
 //! | Line | Status | Shown in |
 //! |---|---|---|
