@@ -2,7 +2,7 @@
  * socket. It gives the texts of requests, takes the bytes of answers, and reports.
  *
  * Link with libdelgunsai, which include/install makes of what `rt lib` proves and builds. It needs the C library alone.
- * docs/C.md has the lines. include/example.c is a program over it:
+ * docs/C.md has the commands. include/example.c is a program over it:
  *
  *     struct cog_client client = {0};
  *     struct delgunsai_step step = {0};
@@ -35,7 +35,7 @@
  *     cog_client_pixels(&client, pixels, pixels_length);
  *     cog_client_free(&client);
  *
- * These calls, of the section "A driver", have all rules of HTTP. A caller with exchanges of its own, as one that answers the requests from
+ * The calls of the section "A driver" keep all rules of HTTP. A caller with exchanges of its own, as one that answers the requests from
  * a file, makes them by cog_client_request, cog_client_begin, cog_client_feed and cog_client_end.
  *
  * For each call:
@@ -126,18 +126,18 @@ struct cog_client {
     bool full;
 };
 
-/* cog_client_new: makes a client of a file's name at a host, with a cache of `blocks` blocks of 16,384 bytes. The one before is freed.
+/* cog_client_new: makes a client of a file's name at a host, with a cache of `blocks` blocks of 16,384 bytes. Frees the handle's old client.
  *
  *   - host, name: text, as it stands in requests: a host with its port, and a path without the slash it begins with
- *   - blocks: 66 to 4,096. Up to as many bytes of unpacked tiles are kept, too, and a buffer of at most 1,048,576 bytes
+ *   - blocks: 66 to 4,096. Unpacked tiles are kept, too, up to `blocks` * 16,384 bytes, and a buffer of at most 1,048,576 bytes
  *   - client: the handle; where the result is negative, it is as it was
  *
  * Returns 0; the first of COG_HOST, COG_NAME and COG_BLOCKS that applies; or COG_MEMORY. */
 int32_t cog_client_new(const uint8_t *host, size_t host_length, const uint8_t *name, size_t name_length, uint32_t blocks,
                        struct cog_client *client);
 
-/* delgunsai_client_by_url: makes a client of the file that a URL of http or https names, with a cache as cog_client_new. The one before is
- * freed.
+/* delgunsai_client_by_url: makes a client of the file that a URL of http or https names, with a cache as cog_client_new. Frees the
+ * handle's old client.
  *
  *   - authority: host and port, as they stand in the URL: a name, an IPv4 address or an IPv6 address in brackets, with a port or none
  *   - target: path and query, from the slash on; what isn't allowed there is percent-encoded (RFC 3986, section 2.1)
@@ -147,8 +147,8 @@ int32_t cog_client_new(const uint8_t *host, size_t host_length, const uint8_t *n
 int32_t delgunsai_client_by_url(const uint8_t *authority, size_t authority_length, const uint8_t *target, size_t target_length,
                                 uint32_t blocks, struct cog_client *client);
 
-/* delgunsai_client_add_field: adds a field, such as Authorization, to each request and check from here on, after those before. The name
- * is a token (RFC 9110, section 5.6.2). The value is visible ASCII, with spaces and tabs inside (section 5.5). There are at most 16 fields.
+/* delgunsai_client_add_field: adds a field, such as Authorization, to each request and check from here on. It follows the fields that were
+ * added before. The name is a token (RFC 9110, section 5.6.2). The value is visible ASCII, with spaces and tabs inside (section 5.5). There are at most 16 fields.
  * Names, values and four bytes for each field are at most 1,024 bytes in all. Unless the result is 0, the client is as it was.
  *
  * Call it before the first query. If you call it later, the request that is under way stays as it was written, and its answer is taken.
@@ -201,7 +201,7 @@ int64_t cog_client_request(struct cog_client *client, uint8_t *room, size_t leng
  * cog_client_request returns the same text. That call may return another text instead, as after a replaced file or a cut answer. Returns
  * the text's length; 0 if there is no early request at this index; COG_MEMORY or COG_NO_CLIENT. There is none until cog_client_request,
  * cog_client_keep_open and cog_client_look_ahead with a number above 0 were all called. After them the result is 0 only if each later
- * block in reach is there, or an early request before this one asks for it. In reach are the byte ranges that are known to be needed, in
+ * block in reach is in the cache, or an early request of a smaller `index` asks for it. In reach are the byte ranges that are known to be needed, in
  * their order. The first one that lies before an earlier one, ends after the file, or has no room in the cache isn't in reach, nor is any
  * after it. The client stays as it was. */
 int64_t cog_client_later(struct cog_client *client, uint32_t index, uint8_t *room, size_t length);
@@ -225,7 +225,7 @@ enum {
     COG_TOOK = 1,      /* it was taken; the number is of the blocks that were stored */
     COG_RESTARTED = 2, /* it was a whole file of another revision, which is read from now on */
     COG_IGNORED = 3    /* it changed nothing, but for one whose rest was dropped (cog_client_end); the reason has this number:
-                        * docs/PROFILE.md, 1 to 12; 3 is another status */
+                        * docs/PROFILE.md, 1 to 12; 3: the status isn't 200 or 206 */
 };
 
 /* cog_client_end: ends the answer, whole or cut, and goes on as far as the known bytes reach. Writes to `said` what the answer did, if the
@@ -293,14 +293,14 @@ int64_t cog_client_check(struct cog_client *client, uint8_t *room, size_t length
 
 enum { COG_SAME = 1, COG_OTHER = 2, COG_UNKNOWN = 3 /* for this reason: 1 to 6 or 9 as COG_IGNORED, or 12: nothing is known */ };
 
-/* cog_client_current: reports what the answer to a check, or its first bytes, say of the ETag. It changes nothing of the client. Returns 0
- * or COG_NO_CLIENT. */
+/* cog_client_current: writes to `said` what the answer to a check, or its first bytes, say of the ETag: `kind` is COG_SAME, COG_OTHER or
+ * COG_UNKNOWN. It changes nothing of the client. Returns 0 or COG_NO_CLIENT. */
 int32_t cog_client_current(struct cog_client *client, const uint8_t *answer, size_t length, struct cog_said *said);
 
 /* ---- A driver: the library says what to do, and the caller moves bytes.
  *
- * These calls keep all rules of a connection: which request is sent and when, which answer is taken for it, where an answer ends, when the
- * connection goes on after it, and what is sent once more. A driver has one connection at a time, plain or with TLS. It calls
+ * These calls keep all rules of a connection. They decide which request is sent and when, and which answer is taken for it. They find
+ * where an answer ends. They also decide when the connection goes on after it, and what is sent once more. A driver has one connection at a time, plain or with TLS. It calls
  * delgunsai_client_go_on with the bytes that it read and that weren't taken so far, and does what the step says, until it is
  * DELGUNSAI_OVER. Call cog_client_keep_open first, so that connections can be kept. example.c is such a driver. A driver doesn't call
  * cog_client_request, cog_client_begin, cog_client_feed and cog_client_end. */
@@ -356,16 +356,16 @@ int32_t delgunsai_client_connected(struct cog_client *client);
 /* delgunsai_client_silent: notes that nothing came on the connection before the request is written. Returns 0 or COG_NO_CLIENT. */
 int32_t delgunsai_client_silent(struct cog_client *client);
 
-/* delgunsai_client_gone: notes that the connection is gone, and how, or couldn't be made. Bytes that weren't taken are dropped. The step is
+/* delgunsai_client_gone: notes that the connection is gone, or couldn't be made. `how` is one of DELGUNSAI_ENDED, _FAILED and _LATE. Bytes that weren't taken are dropped. The step is
  * DELGUNSAI_MORE, or DELGUNSAI_EXCHANGED where the exchange is over by it. Returns 0, COG_MEMORY or COG_NO_CLIENT. */
 int32_t delgunsai_client_gone(struct cog_client *client, uint32_t how, struct delgunsai_step *step);
 
-/* delgunsai_client_exchanges: lets each query from here on take at most `exchanges` exchanges, 65,536 without this call. What is under way
+/* delgunsai_client_exchanges: lets each query from here on take at most `exchanges` exchanges: any number, 65,536 without this call. What is under way
  * is dropped with its connection, as by cog_client_open_.. and cog_client_forget. Returns 0 or COG_NO_CLIENT. */
 int32_t delgunsai_client_exchanges(struct cog_client *client, uint32_t exchanges);
 
 /* delgunsai_client_ask_same: begins the check whether the file still is the one that was read last. The next steps are of the check, up to
- * DELGUNSAI_CHECKED. It has a connection of its own: whatever comes of it, what is under way is dropped, and its connection ends. Returns 1;
+ * DELGUNSAI_CHECKED. The check has a connection of its own. Whatever it brings, what is under way is dropped, and that connection ends. Returns 1;
  * 0 if nothing is known of the file; COG_MEMORY or COG_NO_CLIENT. */
 int32_t delgunsai_client_ask_same(struct cog_client *client);
 

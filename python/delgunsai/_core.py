@@ -207,7 +207,7 @@ class Core:
         _checked(_library.cog_client_open_window(self._at, x, y, width, height, level))
 
     def open_columns(self, x: int, y: int, width: int, height: int, columns: int) -> None:
-        """Asks for a window of the level that has these columns, and drops what is under way."""
+        """Asks for a window of the smallest level in which it has at least `columns` columns, and drops what is under way."""
         _checked(_library.cog_client_open_columns(self._at, x, y, width, height, columns))
 
     def open_info(self) -> None:
@@ -219,7 +219,7 @@ class Core:
         _checked(_library.delgunsai_carry(self._at, ctypes.byref(wire)))
 
     def read(self, wire: Wire, many: Many) -> None:
-        """Does the same, and reads one window of many after another. The step is OVER after the last one, and where the report that stands
+        """Does what `carry` does, and reads one window of many after another. The step is OVER after the last one, and where the report that stands
         is of another kind."""
         _checked(_library.delgunsai_read(self._at, ctypes.byref(wire), ctypes.byref(many)))
 

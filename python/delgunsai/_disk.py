@@ -20,7 +20,7 @@ Take = Callable[[Piece], None]
 
 
 class Disk:
-    """A file of the disk, which answers by ranges as a server would. Its tag is of its place, its length and its last change. An answer
+    """A file of the disk, which answers by ranges as a server would. Its tag is made from its inode number, its length and its mtime. An answer
     is handed on only where the file didn't change while it was read."""
 
     carries = False

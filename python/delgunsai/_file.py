@@ -107,15 +107,15 @@ class File(Raster):
         4,194,304 samples, as 2048 by 2048 of one sample. rasterio's arrays are (count, rows, columns): `numpy.moveaxis(a, -1, 0)`.
 
         `bounds` (left, bottom, right, top) may stand instead of the four numbers: all pixels that these map coordinates touch. Without
-        either the whole level is read. In both cases there may be more samples. With `out_shape` (rows, columns) the window is in pixels
-        of level 0. It is read from the smallest level in which it has at least these rows and columns. Each sample is the nearest one.
+        either the whole level is read. In both cases there may be more than 4,194,304 samples. With `out_shape` (rows, columns) the window is in pixels
+        of level 0. It is read from the smallest level in which it has at least these rows and columns, or level 0. Each sample is the nearest one.
 
         Raises `FileFault` where something is wrong with the file or the window, and `OutOfMemory` where no memory is left. Raises `NotUsed`
         where an answer can't be used, `Lost` where none came, and `Late` after the `deadline`. Raises `ssl.SSLCertVerificationError` where
         the server's certificate isn't trusted, and the exception of the standard `open` where a file of the disk can't be opened. Raises
         `ValueError` for a number outside 0 to 4,294,967,295, an `out_shape` below 1, and a closed file. With `out_shape`, a window that
         isn't inside level 0 raises the fault `Outside` instead. Raises `ValueError`, too, for bounds that have no area or pass a side of
-        the image. It also does for a level that isn't there, if a whole level or bounds are asked for. Raises `TypeError` for what is no
+        the image. The same for a level that isn't there, if a whole level or bounds are asked for. Raises `TypeError` for what is no
         number, for a window that lacks one, for a window with `bounds`, and for a level with `out_shape`. Raises `RuntimeError` where
         a signal handler calls it within a call of the same file, and in a process that the handler makes there.
 
@@ -163,7 +163,7 @@ class File(Raster):
 
     def read_windows(self, windows: Iterable[Sequence[SupportsIndex]], *, level: SupportsIndex = 0,
                      connections: SupportsIndex = 8) -> List[NDArray[Any]]:
-        """Returns the samples of each of `windows` (x, y, width, height), in their order. All are of one revision, which `tag` has then.
+        """Returns the samples of each of `windows` (x, y, width, height), in their order. All are of one revision, whose ETag `tag` is then.
 
         They are read in parallel over at most `connections` connections, 1 to 64. Each has a thread, and a cache of `blocks` blocks, which
         is kept until `close`. Up to 64 arrays may share one piece of memory, of at most 4 MiB (8 MiB for 16 bits). So `copy()` an array that
@@ -179,7 +179,7 @@ class File(Raster):
 
     @property
     def info(self) -> Info:
-        """What georeferences the image: keys, scale, tiepoint and transform as numbers.
+        """What georeferences the image: keys, scale, tiepoint and ModelTransformation as numbers.
 
         If it has to be requested, it may be of a newer revision than an array that you have. `info.tag` is its ETag: compare it with that of
         `read_tagged`. Raises what `read` raises.

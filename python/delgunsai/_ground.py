@@ -20,7 +20,7 @@ NEAR = 1e-6
 
 
 class Transform(NamedTuple):
-    """The first six numbers of rasterio's `Affine`: the upper left corner of the pixel in column `i` and row `j` lies at
+    """The first six numbers of rasterio's `Affine`. The upper left corner of the pixel in column `i` and row `j` has
     x = a i + b j + c and y = d i + e j + f.
 
     >>> Transform(0.5, 0, 100, 0, -0.5, 40).at(2, 4)

@@ -8,7 +8,7 @@ from ._errors import Late
 
 
 class Limit:
-    """How many seconds each wait may take, and when the call ends that is made, by the monotonic clock. None is for ever."""
+    """How many seconds each wait may take, and when the call has to end, by the monotonic clock. None is for ever."""
 
     def __init__(self, timeout: Optional[float], deadline: Optional[float]) -> None:
         self._timeout, self.deadline = timeout, deadline

@@ -36,8 +36,8 @@ class Replaced(Exception):
 
 
 class Raster:
-    """The part of `File` that has the names of rasterio and numpy. Each call gives what is of one revision: where the file is replaced
-    between its info and its samples, both are read anew, and after three times the call fails with `Lost`.
+    """The part of `File` that has the names of rasterio and numpy. What a call gives is of one revision. Where the file is replaced between
+    its info and its samples, both are read anew. After three times the call fails with `Lost`.
 
     Positions are of level 0, unless a level is named. Rows come before columns where rasterio and numpy have them so."""
 

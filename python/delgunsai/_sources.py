@@ -61,10 +61,10 @@ class Source(Protocol):
         """Another one to the same place, for use beside this one."""
 
     def begin(self, call: Optional[threading.Event] = None) -> None:
-        """Notes of which call the exchanges are that come."""
+        """Notes to which call the next exchanges belong."""
 
     def abort(self, call: threading.Event) -> None:
-        """Has what another thread asks for in this call end, and each of its exchanges raise Stopped. A connection that is being made is
+        """Ends what another thread asks for in this call: each of its exchanges raises Stopped. A connection that is being made is
         waited for."""
 
     def forked(self, busy: bool) -> None:

@@ -192,7 +192,8 @@ impl Serving {
         ensures tried { self.old.accept_pending ≡ true → accepted_of self.old < (limits_of self.old).connections
             → TriesAfterTurns (service_of service.now) now self.old self.new }
         // So it is where a connection may keep bytes of a replaced file.
-        ensures tried_old { MayKeepOld service.now.server.now.count self.old → TriesAfterTurns (service_of service.now) now self.old self.new }
+        ensures tried_old { MayKeepOld service.now.server.now.count self.old
+            → TriesAfterTurns (service_of service.now) now self.old self.new }
         // No connection is left that keeps bytes of a replaced file, has made no progress for the patience, and whose socket was tried at
         // this moment and took none.
         ensures freed { MayKeepOld service.now.server.now.count self.old

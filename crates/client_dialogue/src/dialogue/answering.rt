@@ -87,7 +87,8 @@ impl Dialogue {
         ensures begins { self.old.status.left ≡ None → IfOk result (λ progress. progress.step ≡ More → IsSome self.new.status.left
             → IsUseful self.new.status.head (asked_of client.old) (tag_of client.old) self.new.useful) }
         ensures body { 0 < length self.old.status.out → IfSome self.old.status.left (λ left. IfOk result (λ progress. (progress.step ≡ More)
-            × (progress.count ≡ min left (min (max self.old.useful 1) (length bytes.now))) × (self.new.useful ≡ self.old.useful - progress.count))) }
+            × (progress.count ≡ min left (min (max self.old.useful 1) (length bytes.now)))
+            × (self.new.useful ≡ self.old.useful - progress.count))) }
         ensures err { OnErr result (Goes Fails [] self.old client.old self.new client.new) }
     {
         law_answers_are_in_order();

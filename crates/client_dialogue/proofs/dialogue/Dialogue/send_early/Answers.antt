@@ -8,8 +8,12 @@ use Rattle.client_dialogue.proofs.WaitsLemmas.{waits_is, waits_then}
 use Rattle.client_dialogue.proofs.dialogue.Dialogue.send_early.Goals as goal
 
 pub loop-request-init : goal.loop-request-init
-loop-request-init c = (stays_goes c.args.self.now c.args.client.now, c.requires, waits_is c.args.self.now.status c.args.self.now.status refl,
-    plan_is c.args.self.now c.args.self.now refl refl)
+loop-request-init c = (
+  stays_goes c.args.self.now c.args.client.now,
+  c.requires,
+  waits_is c.args.self.now.status c.args.self.now.status refl,
+  plan_is c.args.self.now c.args.self.now refl refl,
+)
 
 pub add_early-requires-clause-busy : goal.add_early-requires-clause-busy
 add_early-requires-clause-busy c = c.loop-request.invariant.1
