@@ -107,8 +107,9 @@ class File(Raster):
         4,194,304 samples, as 2048 by 2048 of one sample. rasterio's arrays are (count, rows, columns): `numpy.moveaxis(a, -1, 0)`.
 
         `bounds` (left, bottom, right, top) may stand instead of the four numbers: all pixels that these map coordinates touch. Without
-        either the whole level is read. In both cases there may be more than 4,194,304 samples. With `out_shape` (rows, columns) the window is in pixels
-        of level 0. It is read from the smallest level in which it has at least these rows and columns, or level 0. Each sample is the nearest one.
+        either the whole level is read. In both cases there may be more than 4,194,304 samples. With `out_shape` (rows, columns) the window
+        is in pixels of level 0. It is read from the smallest level in which it has at least these rows and columns, or level 0. Each sample
+        is the nearest one.
 
         Raises `FileFault` where something is wrong with the file or the window, and `OutOfMemory` where no memory is left. Raises `NotUsed`
         where an answer can't be used, `Lost` where none came, and `Late` after the `deadline`. Raises `ssl.SSLCertVerificationError` where
@@ -116,8 +117,8 @@ class File(Raster):
         `ValueError` for a number outside 0 to 4,294,967,295, an `out_shape` below 1, and a closed file. With `out_shape`, a window that
         isn't inside level 0 raises the fault `Outside` instead. Raises `ValueError`, too, for bounds that have no area or pass a side of
         the image. The same for a level that isn't there, if a whole level or bounds are asked for. Raises `TypeError` for what is no
-        number, for a window that lacks one, for a window with `bounds`, and for a level with `out_shape`. Raises `RuntimeError` where
-        a signal handler calls it within a call of the same file, and in a process that the handler makes there.
+        number, for a window that lacks one, for a window with `bounds`, and for a level other than 0 with `out_shape`. Raises
+        `RuntimeError` where a signal handler calls it within a call of the same file, and in a process that the handler makes there.
 
         >>> f.read(x=24, y=30, width=4, height=2).tolist()
         [[216, 221, 226, 231], [217, 222, 227, 232]]
